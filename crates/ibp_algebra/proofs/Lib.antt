@@ -1,0 +1,16 @@
+pub mod Weights
+pub mod SumLaws
+pub mod Canonical
+pub mod NormalForm
+pub mod ZeroDivisors
+pub mod Terms
+pub mod Joining
+pub mod Striking
+pub mod Combinations
+pub mod StandardRepresentations
+pub mod ExponentLaws
+pub mod SumOfExponents
+pub mod Divisibility
+pub mod Degrees
+pub mod PolynomialLaws
+pub mod ModuleLaws

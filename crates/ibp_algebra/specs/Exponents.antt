@@ -1,0 +1,30 @@
+-- Lists of exponents. A list stands for a power product: its entry at place i is the exponent of the
+-- variable at place i, and a variable past its end has the exponent zero.
+use Rattle.std.specs.Prelude.{◌≡◌, ℕ, zero, suc, ◌+◌, Bool, nat_eq, sum, reverse, List, [], ◌∷◌}
+use Rattle.std.specs.Cmp.Lexicographic.{pointwise, slice_cmp}
+use Rattle.std.specs.Ordering.{nat_cmp, ordering_then}
+use Rattle.std.specs.declared.cmp.Ordering.{Ordering}
+
+-- the sum place by place, where a shorter list is continued by zeros
+abbrev pub padded_sum : {X : Type 0} → (X → X → X) → List X → List X → List X
+padded_sum plus [] ys = ys
+padded_sum plus (x ∷ xs) [] = x ∷ xs
+padded_sum plus (x ∷ xs) (y ∷ ys) = plus x y ∷ padded_sum plus xs ys
+
+-- the exponents of a product of two power products
+abbrev pub add_exponents : List ℕ → List ℕ → List ℕ
+add_exponents = padded_sum ◌+◌
+
+-- the exponents of the first n variables
+abbrev pub first_exponents : ℕ → List ℕ → List ℕ
+first_exponents zero m = []
+first_exponents (suc n) [] = 0 ∷ first_exponents n []
+first_exponents (suc n) (x ∷ m) = x ∷ first_exponents n m
+
+abbrev pub same_exponents : List ℕ → List ℕ → Bool
+same_exponents = pointwise nat_eq
+
+-- the degree reverse lexicographic order: the greater degree is greater, and at equal degree the smaller
+-- exponent at the last variable where the two differ
+abbrev pub deg_rev_lex : List ℕ → List ℕ → Ordering
+deg_rev_lex a b = ordering_then (nat_cmp (sum a) (sum b)) (slice_cmp nat_cmp (reverse b) (reverse a))

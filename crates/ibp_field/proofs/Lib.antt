@@ -1,0 +1,4 @@
+pub mod Congruence
+pub mod Prime
+pub mod Inverse
+pub mod InverseOf

@@ -1,0 +1,85 @@
+ghost use Rattle.std.specs.Prelude.{◌≡◌, ℕ, Bool};
+ghost use Rattle.std.specs.declared.cmp.Ordering.{Ordering};
+ghost use Rattle.mono_order.specs.Term.{Term as TermValue};
+ghost use Rattle.mono_order.specs.TermOrder.{IsTermOrder};
+
+use crate::monomial::{DegRevLex, MonomialOrder};
+use crate::term::Term;
+use std::cmp::Ordering;
+
+/// An order of terms, whose exponents have no upper bound in its laws.
+pub trait TermOrder {
+    ghost order: { TermValue → TermValue → Ordering };
+
+    ghost high: { ℕ → Bool };
+
+    ghost height: { TermValue → ℕ };
+
+    ghost bound: { ℕ };
+
+    fn compare(left: &Term, right: &Term) -> Ordering
+        ensures { result ≡ order left.now right.now };
+
+    fn is_high(component: u8) -> bool
+        ensures { result ≡ high component };
+
+    ghost laws: { IsTermOrder 9 order high height bound };
+}
+
+/// No component is high: the monomial decides, and at equal monomials the lower component is greater.
+pub struct OverPosition;
+
+impl TermOrder for OverPosition {
+    ghost use Rattle.mono_order.specs.TermOrder.{over_position, nothing_high, block_height, block_bound};
+    ghost use Rattle.mono_order.specs.BlockOrders.{over_position_laws};
+
+    ghost order = { over_position };
+
+    ghost high = { nothing_high };
+
+    ghost height = { block_height };
+
+    ghost bound = { block_bound 9 };
+
+    fn compare(left: &Term, right: &Term) -> Ordering {
+        match DegRevLex::compare(&left.monomial, &right.monomial) {
+            Ordering::Equal => right.component.cmp(&left.component),
+            different => different,
+        }
+    }
+
+    fn is_high(_component: u8) -> bool {
+        false
+    }
+
+    ghost laws = { over_position_laws 9 };
+}
+
+/// Component 0 is high: each of its terms is greater than every term of another component.
+pub struct ZeroDominates;
+
+impl TermOrder for ZeroDominates {
+    ghost use Rattle.mono_order.specs.TermOrder.{zero_dominates, zero_high, block_height, block_bound};
+    ghost use Rattle.mono_order.specs.BlockOrders.{zero_dominates_laws};
+
+    ghost order = { zero_dominates };
+
+    ghost high = { zero_high };
+
+    ghost height = { block_height };
+
+    ghost bound = { block_bound 9 };
+
+    fn compare(left: &Term, right: &Term) -> Ordering {
+        match (left.component == 0).cmp(&(right.component == 0)) {
+            Ordering::Equal => OverPosition::compare(left, right),
+            different => different,
+        }
+    }
+
+    fn is_high(component: u8) -> bool {
+        component == 0
+    }
+
+    ghost laws = { zero_dominates_laws 9 };
+}

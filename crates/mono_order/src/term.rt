@@ -1,0 +1,19 @@
+use crate::monomial::Monomial;
+use std::marker::Model;
+
+/// A component and a power product. Contracts see it as the pair of these.
+#[derive(Clone, Copy, PartialEq, Eq, Debug)]
+pub struct Term {
+    pub component: u8,
+    pub monomial: Monomial,
+}
+
+impl Model for Term {
+    ghost use Rattle.std.specs.Prelude.{List, ℕ};
+
+    ghost Value = { ℕ × List ℕ };
+
+    ghost view = { λ t. (t.component, t.monomial) };
+
+    ghost inverse = { λ t. record { component = t.0; monomial = t.1 } };
+}
