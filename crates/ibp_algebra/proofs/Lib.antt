@@ -14,3 +14,12 @@ pub mod Divisibility
 pub mod Degrees
 pub mod PolynomialLaws
 pub mod ModuleLaws
+pub mod CombinationLaws
+pub mod Members
+pub mod Leads
+pub mod ReducedForms
+pub mod Independence
+pub mod Lookups
+pub mod Prefixes
+pub mod Existence
+pub mod Permuting

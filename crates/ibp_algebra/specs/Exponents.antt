@@ -1,6 +1,6 @@
 -- Lists of exponents. A list stands for a power product: its entry at place i is the exponent of the
 -- variable at place i, and a variable past its end has the exponent zero.
-use Rattle.std.specs.Prelude.{◌≡◌, ℕ, zero, suc, ◌+◌, Bool, nat_eq, sum, reverse, List, [], ◌∷◌}
+use Rattle.std.specs.Prelude.{ℕ, zero, suc, ◌+◌, ◌-◌, Bool, nat_eq, sum, reverse, replicate, length, List, [], ◌∷◌}
 use Rattle.std.specs.Cmp.Lexicographic.{pointwise, slice_cmp}
 use Rattle.std.specs.Ordering.{nat_cmp, ordering_then}
 use Rattle.std.specs.declared.cmp.Ordering.{Ordering}
@@ -28,3 +28,18 @@ same_exponents = pointwise nat_eq
 -- exponent at the last variable where the two differ
 abbrev pub deg_rev_lex : List ℕ → List ℕ → Ordering
 deg_rev_lex a b = ordering_then (nat_cmp (sum a) (sum b)) (slice_cmp nat_cmp (reverse b) (reverse a))
+
+-- the exponents of a power of the variable at a place
+abbrev pub power_exponents : ℕ → ℕ → List ℕ
+power_exponents zero exponent = exponent ∷ []
+power_exponents (suc place) exponent = 0 ∷ power_exponents place exponent
+
+-- the product of powers of the variables with these numbers, which are counted from 1
+abbrev pub product_of_powers : List ℕ → List ℕ → List ℕ
+product_of_powers [] m = []
+product_of_powers (number ∷ numbers) [] = []
+product_of_powers (number ∷ numbers) (exponent ∷ m) = add_exponents (power_exponents (number - 1) exponent) (product_of_powers numbers m)
+
+-- each variable replaced by the one whose number the list has at its place
+abbrev pub permute_exponents : List ℕ → List ℕ → List ℕ
+permute_exponents to m = add_exponents (replicate (length m) 0) (product_of_powers to m)

@@ -6,3 +6,4 @@ pub mod Polynomial
 pub mod Field
 pub mod Laurent
 pub mod Identity
+pub mod Spans

@@ -7,10 +7,12 @@
 --     derivative i f            by the variable at place i: c z^m gives c*m_i z^(m - e_i)
 --     IsDivisibleBy i f         each monomial of f has a positive exponent at place i
 --     derivative_along a p      the sum over i of a_i times the derivative of p by the variable at place i
---     degree_of f               the degree of the first term, 0 where there is none
-use Rattle.std.specs.Prelude.{◌≢◌, ℕ, suc, ◌-◌, ◌*◌, ◌<◌, List, [], ◌∷◌, ◌++◌, map, sum, slice_index, slice_set}
-use Rattle.ibp_algebra.specs.FormalSum.{FormalSum, coefficient, SameCoefficients, product}
-use Rattle.ibp_algebra.specs.Exponents.{add_exponents, same_exponents}
+--     set_zero i f              the terms without the variable at place i
+--     permute to f              each variable replaced by the one whose number, from 1, `to` has at its place
+--     degree_of f               the greatest total degree of a term, 0 where there is none
+use Rattle.std.specs.Prelude.{◌≢◌, ℕ, suc, ◌-◌, ◌*◌, ◌<◌, max, nat_lt, List, [], ◌∷◌, ◌++◌, map, sum, slice_index, slice_set}
+use Rattle.ibp_algebra.specs.FormalSum.{FormalSum, coefficient, SameCoefficients, map_keys, strike, product}
+use Rattle.ibp_algebra.specs.Exponents.{add_exponents, same_exponents, permute_exponents}
 
 abbrev pub Polynomial : Type 0
 Polynomial = FormalSum (List ℕ)
@@ -37,6 +39,12 @@ derivative_along_from i (a ∷ others) p = multiply a (derivative i p) ++ deriva
 abbrev pub derivative_along : List Polynomial → Polynomial → Polynomial
 derivative_along a p = derivative_along_from 0 a p
 
+abbrev pub set_zero : ℕ → Polynomial → Polynomial
+set_zero i f = strike (λ m. nat_lt 0 (slice_index m i)) f
+
+abbrev pub permute : List ℕ → Polynomial → Polynomial
+permute to f = map_keys (permute_exponents to) f
+
 abbrev pub degree_of : Polynomial → ℕ
 degree_of [] = 0
-degree_of (term ∷ terms) = sum term.0
+degree_of (term ∷ terms) = max (sum term.0) (degree_of terms)

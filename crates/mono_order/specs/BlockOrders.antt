@@ -1,5 +1,5 @@
 -- The orders of terms meet the laws, whichever components are high.
-use Rattle.std.proofs.Common.{◌≡◌, ◌≢◌, ℕ, ◌*◌, ◌^◌, ◌<◌, ◌≤◌, Bool, true, false, ◌⊎◌, inl, inr, ⊎_elim, length, sum, reverse, replicate, List, sym, refl, ap, ◌∙◌, arith}
+use Rattle.std.proofs.Common.{◌≡◌, ◌≢◌, ℕ, ◌+◌, ◌*◌, ◌^◌, ◌<◌, ◌≤◌, Bool, true, false, ◌⊎◌, inl, inr, ⊎_elim, length, sum, reverse, replicate, List, sym, refl, ap, ◌∙◌, arith}
 use Rattle.std.specs.Ordering.{nat_cmp, bool_cmp, ordering_then}
 use Rattle.std.specs.Cmp.{IsTotalOrder, nat_cmp_is, nat_cmp_total, bool_cmp_total, on_total, back_total, then_total}
 use Rattle.std.specs.Cmp.Lexicographic.{slice_cmp}
@@ -9,6 +9,7 @@ use Rattle.std.specs.declared.cmp.Ordering.TheVariants.{Less, Equal, Greater}
 use Rattle.ibp_algebra.proofs.Canonical.{order_refl}
 use Rattle.ibp_algebra.specs.Exponents.{deg_rev_lex}
 use Rattle.ibp_algebra.specs.ExponentOrder.{deg_rev_lex_total, deg_rev_lex_unique}
+use Rattle.mono_order.specs.declared.limits.TheConstants.{MONO_DEGREE}
 use Rattle.mono_order.specs.Term.{Term, multiply_term}
 use Rattle.mono_order.specs.TermOrder.{over_position, zero_dominates, high_block, block_order, nothing_high, zero_high, block_high, monomial_height, block_height, block_bound, IsTermOrder}
 use Rattle.mono_order.specs.ReverseLex.{deg_rev_lex-add, one_is_least, monomial_height-rise, monomial_height-bound, greater}
@@ -79,10 +80,10 @@ module _ (high : ℕ → Bool) where
         | Greater ↦ λ k f. omega (arith, monomial_height-rise s.1 t.1 p k)
       ] refl e
 
-  bounded_height : (n : ℕ) (t : Term) → length t.1 ≡ n → sum t.1 ≤ 300 → block_height t < 256 * (301 * 301 ^ n)
+  bounded_height : (n : ℕ) (t : Term) → length t.1 ≡ n → sum t.1 ≤ MONO_DEGREE → block_height t < 256 * ((MONO_DEGREE + 1) * (MONO_DEGREE + 1) ^ n)
   bounded_height n t p small =
-      let below = monomial_height-bound t.1 300 small in
-      let same = ap (λ k. 301 * 301 ^ k) p in
+      let below = monomial_height-bound t.1 MONO_DEGREE small in
+      let same = ap (λ k. (MONO_DEGREE + 1) * (MONO_DEGREE + 1) ^ k) p in
       omega (arith, below, same)
 
   pub block_laws : (variables : ℕ) → IsTermOrder variables (block_order high) high block_height (block_bound variables)

@@ -1,6 +1,12 @@
--- What the type `Monomial` keeps of its exponents.
+-- What the type `Monomial` keeps of its exponents: there is one for each variable, and their sum has a limit.
+use Rattle.std.proofs.Common.{sym}
 use Rattle.std.specs.Prelude.{◌≡◌, ℕ, ◌≤◌, length, sum, List}
+use Rattle.mono_order.specs.declared.limits.TheConstants.{VARIABLES, MONO_DEGREE}
 
 pub record IsMonomial (m : List ℕ) : Type 0 where
-  pub nine : length m ≡ 9
-  pub bounded : sum m ≤ 300
+  pub each_variable : length m ≡ VARIABLES
+  pub bounded : sum m ≤ MONO_DEGREE
+
+-- the degree that is kept is that of the exponents
+pub stored_degree : (degree : ℕ) (m : List ℕ) → degree ≡ sum m → sum m ≡ degree
+stored_degree degree m e = sym e

@@ -15,6 +15,7 @@ use Rattle.std.specs.Ordering.{nat_cmp, bool_cmp, ordering_then}
 use Rattle.std.specs.declared.cmp.Ordering.{Ordering}
 use Rattle.std.specs.declared.cmp.Ordering.TheVariants.{Less, Greater}
 use Rattle.ibp_algebra.specs.Exponents.{deg_rev_lex}
+use Rattle.mono_order.specs.declared.limits.TheConstants.{MONO_DEGREE}
 use Rattle.mono_order.specs.Term.{Term, multiply_term, IsTerm}
 
 -- the monomial decides, and at equal monomials the lower component is greater
@@ -53,12 +54,12 @@ monomial_height m = sum m * (sum m + 1) ^ length m + digits (sum m) m
 abbrev pub block_height : Term → ℕ
 block_height t = 256 * monomial_height t.1 + (255 - t.0)
 
--- above each height of a term with a component below 256 and a degree of at most 300
+-- above each height of a term with a component below 256 and a degree of at most MONO_DEGREE
 abbrev pub block_bound : ℕ → ℕ
-block_bound variables = 256 * (301 * 301 ^ variables)
+block_bound variables = 256 * ((MONO_DEGREE + 1) * (MONO_DEGREE + 1) ^ variables)
 
 -- The laws of an order of terms. Exponents have no upper bound, and there are as many as there are variables.
--- `bound` is above each height of a term of degree at most 300.
+-- `bound` is above each height of a term of degree at most MONO_DEGREE.
 pub record IsTermOrder (variables : ℕ) (order : Term → Term → Ordering) (high : ℕ → Bool) (height : Term → ℕ) (bound : ℕ) : Type 0 where
   pub total : IsTotalOrder order
   pub unique : IsAntisymmetric order
@@ -68,4 +69,4 @@ pub record IsTermOrder (variables : ℕ) (order : Term → Term → Ordering) (h
   pub high_above : (s t : Term) → high s.0 ≡ true → high t.0 ≡ false → order s t ≡ Greater
   pub degree_first : (s t : Term) → high s.0 ≡ false → high t.0 ≡ false → sum t.1 < sum s.1 → order s t ≡ Greater
   pub height_falls : (s t : Term) → IsTerm variables s → IsTerm variables t → high s.0 ≡ high t.0 → order s t ≡ Greater → height t < height s
-  pub height_bounded : (t : Term) → IsTerm variables t → sum t.1 ≤ 300 → height t < bound
+  pub height_bounded : (t : Term) → IsTerm variables t → sum t.1 ≤ MONO_DEGREE → height t < bound

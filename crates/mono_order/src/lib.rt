@@ -1,10 +1,12 @@
 //! Monomials, module terms, and their orders with laws.
 #![tactic(auto)]
 
+mod limits;
 mod monomial;
 mod order;
 mod term;
 
-pub use monomial::{DEGREE_LIMIT, DegRevLex, Monomial, MonomialOrder, VARIABLES};
+pub use limits::{MONO_DEGREE, RUN_DEGREE, VARIABLES};
+pub use monomial::{DegRevLex, Monomial, MonomialOrder};
 pub use order::{OverPosition, TermOrder, ZeroDominates};
 pub use term::Term;

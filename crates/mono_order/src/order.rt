@@ -1,5 +1,6 @@
 ghost use Rattle.std.specs.Prelude.{◌≡◌, ℕ, Bool};
 ghost use Rattle.std.specs.declared.cmp.Ordering.{Ordering};
+ghost use Rattle.mono_order.specs.declared.limits.TheConstants.{VARIABLES};
 ghost use Rattle.mono_order.specs.Term.{Term as TermValue};
 ghost use Rattle.mono_order.specs.TermOrder.{IsTermOrder};
 
@@ -23,7 +24,7 @@ pub trait TermOrder {
     fn is_high(component: u8) -> bool
         ensures { result ≡ high component };
 
-    ghost laws: { IsTermOrder 9 order high height bound };
+    ghost laws: { IsTermOrder VARIABLES order high height bound };
 }
 
 /// No component is high: the monomial decides, and at equal monomials the lower component is greater.
@@ -39,7 +40,7 @@ impl TermOrder for OverPosition {
 
     ghost height = { block_height };
 
-    ghost bound = { block_bound 9 };
+    ghost bound = { block_bound VARIABLES };
 
     fn compare(left: &Term, right: &Term) -> Ordering {
         match DegRevLex::compare(&left.monomial, &right.monomial) {
@@ -52,7 +53,7 @@ impl TermOrder for OverPosition {
         false
     }
 
-    ghost laws = { over_position_laws 9 };
+    ghost laws = { over_position_laws VARIABLES };
 }
 
 /// Component 0 is high: each of its terms is greater than every term of another component.
@@ -68,7 +69,7 @@ impl TermOrder for ZeroDominates {
 
     ghost height = { block_height };
 
-    ghost bound = { block_bound 9 };
+    ghost bound = { block_bound VARIABLES };
 
     fn compare(left: &Term, right: &Term) -> Ordering {
         match (left.component == 0).cmp(&(right.component == 0)) {
@@ -81,5 +82,50 @@ impl TermOrder for ZeroDominates {
         component == 0
     }
 
-    ghost laws = { zero_dominates_laws 9 };
+    ghost laws = { zero_dominates_laws VARIABLES };
+}
+
+#[cfg(test)]
+mod tests {
+    use super::*;
+    use crate::monomial::Monomial;
+
+    fn is_shared<T: Send + Sync>() {}
+
+    fn order_of<O: TermOrder>(left: &Term, right: &Term) -> (Ordering, bool) {
+        (O::compare(left, right), O::is_high(left.component))
+    }
+
+    #[test]
+    fn component_zero_is_high_where_it_dominates(rt: HostRuntime) {
+        is_shared::<Term>();
+        let zero = Term {
+            component: 0,
+            monomial: Monomial::one(),
+        };
+        let first = Term {
+            component: 1,
+            monomial: Monomial::variable(1),
+        };
+        let second = Term {
+            component: 2,
+            monomial: Monomial::variable(1),
+        };
+        assert_eq!(rt;
+            order_of::<ZeroDominates>(&zero, &first),
+            (Ordering::Greater, true)
+        );
+        assert_eq!(rt;
+            order_of::<ZeroDominates>(&first, &second),
+            (Ordering::Greater, false)
+        );
+        assert_eq!(rt;
+            order_of::<OverPosition>(&zero, &first),
+            (Ordering::Less, false)
+        );
+        assert_eq!(rt;
+            order_of::<OverPosition>(&second, &first),
+            (Ordering::Less, false)
+        );
+    }
 }

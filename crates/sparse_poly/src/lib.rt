@@ -1,6 +1,7 @@
-//! Sparse polynomials over the residues, in up to nine variables.
+//! Sparse polynomials over the residues, in the variables of `Monomial`.
 #![tactic(auto)]
 
 mod poly;
+mod terms;
 
 pub use poly::{Poly, PolyFault};

@@ -1,38 +1,21 @@
-ghost use Rattle.std.specs.Prelude.{◌≡◌, ◌+◌, ◌-◌, ◌<◌, ◌≤◌, [], ◌++◌, sum, IfOk, OnOk, IsTrue, ◌↔◌};
-ghost use Rattle.ibp_algebra.specs.FormalSum.{AllKeys, IsCanonical, scale, times_term};
-ghost use Rattle.ibp_algebra.specs.Exponents.{add_exponents, deg_rev_lex};
-ghost use Rattle.ibp_algebra.specs.Polynomial.{SamePolynomial, IsDivisibleBy, degree_of, derivative, multiply};
+ghost use Rattle.std.specs.Prelude.{◌≡◌, ◌≢◌, ◌+◌, ◌-◌, ◌<◌, ◌≤◌, [], ◌++◌, IfOk, IsTrue, ◌↔◌, All};
+ghost use Rattle.ibp_algebra.specs.FormalSum.{IsCanonical, scale};
+ghost use Rattle.ibp_algebra.specs.Exponents.{deg_rev_lex};
+ghost use Rattle.ibp_algebra.specs.Polynomial.{SamePolynomial, IsDivisibleBy, degree_of, derivative, multiply, permute, set_zero};
 
+use crate::terms::{plus_multiple, product_of, sum_of};
 use ibp_base::NoMemory;
 use ibp_field::Residue;
-use mono_order::{DEGREE_LIMIT, DegRevLex, Monomial, MonomialOrder};
-use sparse_terms::{KeyOrder, sum_of_terms};
+use mono_order::{MONO_DEGREE, Monomial, VARIABLES};
 use std::alloc::{AllocError, Global};
-use std::cmp::Ordering;
 use std::marker::Model;
-
-// The order of monomials, as an order on keys.
-struct ByMonomial;
-
-impl KeyOrder<Monomial> for ByMonomial {
-    ghost use Rattle.ibp_algebra.specs.Exponents.{deg_rev_lex};
-    ghost use Rattle.ibp_algebra.specs.ExponentOrder.{deg_rev_lex_total, deg_rev_lex_unique};
-
-    ghost order = { deg_rev_lex };
-
-    ghost total = { deg_rev_lex_total };
-
-    ghost unique = { deg_rev_lex_unique };
-
-    fn compare(left: &Monomial, right: &Monomial) -> Ordering {
-        DegRevLex::compare(left, right)
-    }
-}
 
 /// Why a product is not made.
 #[derive(Clone, Copy, PartialEq, Eq, Debug)]
 pub enum PolyFault {
+    /// The degrees of the factors add up to more than `MONO_DEGREE`.
     DegreeOver,
+    /// Memory ran out.
     NoMemory,
 }
 
@@ -78,6 +61,7 @@ impl Model for Poly {
 }
 
 impl Poly {
+    /// The polynomial with no terms.
     pub fn zero(alloc: Global) -> Poly
         ensures { result ≡ [] }
     {
@@ -86,16 +70,17 @@ impl Poly {
         }
     }
 
-    /// The sum of the terms.
+    /// The sum of the terms, which may repeat monomials and have zero coefficients.
     pub fn from_terms(alloc: Global, terms: &[(Monomial, Residue)]) -> Result<Poly, NoMemory>
-        ensures { IfOk result (λ p. SamePolynomial p terms.now) }
+        ensures sum { IfOk result (λ p. SamePolynomial p terms.now) }
+        ensures canonical { IfOk result (λ p. IsCanonical deg_rev_lex p) }
     {
         Ok(Poly {
-            terms: sum_of_terms::<Monomial, ByMonomial>(alloc, terms)?,
+            terms: sum_of(alloc, terms)?,
         })
     }
 
-    /// All terms, greatest first.
+    /// All terms, greatest first by `DegRevLex`.
     pub fn terms(&self) -> &[(Monomial, Residue)]
         ensures same { result.now ≡ self.now }
         ensures canonical { IsCanonical deg_rev_lex self.now }
@@ -103,23 +88,17 @@ impl Poly {
         &self.terms
     }
 
+    /// Whether there are no terms.
     pub fn is_zero(&self) -> bool
         ensures { IsTrue result ↔ (self.now ≡ []) }
     {
         self.terms.is_empty()
     }
 
-    /// Whether the two are one polynomial.
-    pub fn is_same(&self, other: &Poly) -> bool
-        ensures { IsTrue result ↔ (self.now ≡ other.now) }
-    {
-        self.terms() == other.terms()
-    }
-
     /// The total degree, 0 for the zero polynomial.
     pub fn degree(&self) -> u16
         ensures degree { result ≡ degree_of self.now }
-        ensures bounded { result ≤ 300 }
+        ensures bounded { result ≤ MONO_DEGREE }
     {
         match self.terms.first() {
             Some(term) => term.0.degree(),
@@ -127,36 +106,53 @@ impl Poly {
         }
     }
 
-    /// Whether each term has a positive exponent of the variable.
+    /// Whether each term has a positive exponent of z_i, with i from 1.
     pub fn divisible_by(&self, i: u8) -> bool
-        requires { (0 < i) × (i ≤ 9) }
+        requires { (0 < i) × (i ≤ VARIABLES) }
         ensures { IsTrue result ↔ IsDivisibleBy (i - 1) self.now }
     {
         self.terms.iter().all(|term| term.0.exponent(i) > 0)
     }
 
+    /// The sum.
     pub fn add(&self, alloc: Global, other: &Poly) -> Result<Poly, NoMemory>
-        ensures { IfOk result (λ p. SamePolynomial p (self.now ++ other.now)) }
+        ensures sum { IfOk result (λ p. SamePolynomial p (self.now ++ other.now)) }
+        ensures canonical { IfOk result (λ p. IsCanonical deg_rev_lex p) }
     {
-        let mut terms = self.terms().to_vec(alloc)?;
-        terms.extend_from_slice(other.terms())?;
-        Poly::from_terms(alloc, &terms)
+        Ok(Poly {
+            terms: plus_multiple(alloc, self.terms(), Residue::one(), other.terms())?,
+        })
     }
 
+    /// The multiple by a residue.
     pub fn scale(&self, alloc: Global, by: Residue) -> Result<Poly, NoMemory>
-        ensures { IfOk result (λ p. SamePolynomial p (scale by self.now)) }
+        ensures multiple { IfOk result (λ p. SamePolynomial p (scale by self.now)) }
+        ensures canonical { IfOk result (λ p. IsCanonical deg_rev_lex p) }
     {
-        let mut terms = Vec::new(alloc);
-        for (monomial, value) in self.terms() {
-            terms.push((*monomial, by.mul(*value)))?;
-        }
-        Poly::from_terms(alloc, &terms)
+        Ok(Poly {
+            terms: plus_multiple(alloc, &[], by, self.terms())?,
+        })
     }
 
-    /// The derivative by the variable z_i.
+    /// The product, unless its degree is above the limit of monomials.
+    pub fn mul(&self, alloc: Global, other: &Poly) -> Result<Poly, PolyFault>
+        ensures product { IfOk result (λ p. SamePolynomial p (multiply self.now other.now)) }
+        ensures canonical { IfOk result (λ p. IsCanonical deg_rev_lex p) }
+        ensures over { result ≡ Err PolyFault.DegreeOver ↔ ((self.now ≢ []) × (other.now ≢ []) × (MONO_DEGREE < degree_of self.now + degree_of other.now)) }
+    {
+        if self.degree() + other.degree() > MONO_DEGREE {
+            return Err(PolyFault::DegreeOver);
+        }
+        Ok(Poly {
+            terms: product_of(alloc, self.terms(), other.terms())?,
+        })
+    }
+
+    /// The derivative by z_i, with i from 1.
     pub fn derivative(&self, alloc: Global, i: u8) -> Result<Poly, NoMemory>
-        requires { (0 < i) × (i ≤ 9) }
-        ensures { IfOk result (λ p. SamePolynomial p (derivative (i - 1) self.now)) }
+        requires { (0 < i) × (i ≤ VARIABLES) }
+        ensures derivative { IfOk result (λ p. SamePolynomial p (derivative (i - 1) self.now)) }
+        ensures canonical { IfOk result (λ p. IsCanonical deg_rev_lex p) }
     {
         let mut terms = Vec::new(alloc);
         for (monomial, value) in self.terms() {
@@ -171,34 +167,127 @@ impl Poly {
         Poly::from_terms(alloc, &terms)
     }
 
-    pub fn mul(&self, alloc: Global, other: &Poly) -> Result<Poly, PolyFault>
-        ensures product { IfOk result (λ p. SamePolynomial p (multiply self.now other.now)) }
-        ensures within { OnOk result (degree_of self.now + degree_of other.now ≤ 300) }
-        ensures over { result ≡ Err PolyFault.DegreeOver → 300 < degree_of self.now + degree_of other.now }
+    /// The terms without z_i, with i from 1.
+    pub fn set_zero(&self, alloc: Global, i: u8) -> Result<Poly, NoMemory>
+        requires { (0 < i) × (i ≤ VARIABLES) }
+        ensures kept { IfOk result (λ p. p ≡ set_zero (i - 1) self.now) }
+        ensures canonical { IfOk result (λ p. IsCanonical deg_rev_lex p) }
     {
-        if self.degree() + other.degree() > DEGREE_LIMIT {
-            return Err(PolyFault::DegreeOver);
-        }
-        let mut products = Vec::new(alloc);
+        let mut terms = Vec::new(alloc);
         for (monomial, value) in self.terms() {
-            push_multiple(&mut products, *monomial, *value, other.terms())?;
+            if monomial.exponent(i) == 0 {
+                terms.push((*monomial, *value))?;
+            }
         }
-        Ok(Poly::from_terms(alloc, &products)?)
+        Ok(Poly { terms })
+    }
+
+    /// Each variable replaced by another one: entry i - 1 of `to` is the number, from 1, of the variable that
+    /// stands for z_i.
+    pub fn permute(&self, alloc: Global, to: &[u8; VARIABLES]) -> Result<Poly, NoMemory>
+        requires { All (λ number. (0 < number) × (number ≤ VARIABLES)) to.now }
+        ensures moved { IfOk result (λ p. SamePolynomial p (permute to.now self.now)) }
+        ensures canonical { IfOk result (λ p. IsCanonical deg_rev_lex p) }
+    {
+        let mut terms = Vec::new(alloc);
+        for (monomial, value) in self.terms() {
+            terms.push((monomial.permuted(to), *value))?;
+        }
+        Poly::from_terms(alloc, &terms)
     }
 }
 
-// Puts the products of one term with these terms at the end.
-fn push_multiple(
-    products: &mut Vec<(Monomial, Residue)>,
-    monomial: Monomial,
-    value: Residue,
-    terms: &[(Monomial, Residue)],
-) -> Result<(), AllocError>
-    requires { AllKeys (λ m. sum monomial + sum m ≤ 300) terms.now }
-    ensures { IfOk result (λ _. SamePolynomial products.new.items (products.old.items ++ times_term add_exponents (monomial, value) terms.now)) }
-{
-    for (other, factor) in terms {
-        products.push((monomial.product(other), value.mul(*factor)))?;
+impl PartialEq for Poly {
+    ghost use Rattle.sparse_poly.specs.Equality.{one_polynomial, one_polynomial_laws};
+    ghost use Rattle.std.specs.Cmp.{partial_equiv_from_equiv};
+
+    ghost eq = { one_polynomial };
+
+    ghost laws = { partial_equiv_from_equiv one_polynomial_laws };
+
+    fn eq(&self, other: &Poly) -> bool {
+        self.terms() == other.terms()
     }
-    Ok(())
+}
+
+impl Eq for Poly {
+    ghost use Rattle.sparse_poly.specs.Equality.{one_polynomial_laws};
+
+    ghost laws = { one_polynomial_laws };
+}
+
+#[cfg(test)]
+mod tests {
+    use super::*;
+    use std::test::Fail;
+
+    fn is_shared<T: Send + Sync>() {}
+
+    // c1 * z1 + c2 * z2 + c
+    fn linear(alloc: Global, first: i64, second: i64, constant: i64) -> Result<Poly, Fail> {
+        let poly = Poly::from_terms(
+            alloc,
+            &[
+                (Monomial::one(), Residue::from_i64(constant)),
+                (Monomial::variable(1), Residue::from_i64(first)),
+                (Monomial::variable(2), Residue::from_i64(second)),
+            ],
+        )?;
+        Ok(poly)
+    }
+
+    fn power(alloc: Global, exponents: [u16; VARIABLES], factor: i64) -> Result<Poly, Fail> {
+        let monomial = Monomial::from_exponents(exponents).ok_or("degree over")?;
+        let poly = Poly::from_terms(alloc, &[(monomial, Residue::from_i64(factor))])?;
+        Ok(poly)
+    }
+
+    #[test]
+    fn binomials_are_added_and_multiplied(rt: HostRuntime) -> Result<(), Fail> {
+        is_shared::<Poly>();
+        let alloc = rt.alloc();
+        let p = linear(alloc, 1, 0, 1)?;
+        let q = linear(alloc, 1, 0, -1)?;
+        assert_eq!(rt; p.terms().len(), 2);
+        let terms = [
+            (Monomial::variable(1), Residue::one()),
+            (Monomial::one(), Residue::one()),
+        ];
+        assert!(rt; p.terms() == terms.as_slice());
+        assert!(rt; p.add(alloc, &q)? == linear(alloc, 2, 0, 0)?);
+        let square = power(alloc, [2, 0, 0, 0, 0, 0, 0, 0, 0], 1)?;
+        assert!(rt; p.mul(alloc, &q)? == square.add(alloc, &linear(alloc, 0, 0, 2147483646)?)?);
+        assert!(rt; p.scale(alloc, Residue::of(3))? == linear(alloc, 3, 0, 3)?);
+        assert!(rt; p.scale(alloc, Residue::zero())? == Poly::zero(alloc));
+        Ok(())
+    }
+
+    #[test]
+    fn the_degree_of_a_product_has_a_limit(rt: HostRuntime) -> Result<(), Fail> {
+        let alloc = rt.alloc();
+        let most = power(alloc, [300, 0, 0, 0, 0, 0, 0, 0, 0], 1)?;
+        assert_eq!(rt; most.degree(), 300);
+        assert!(rt;
+            matches!(
+                most.mul(alloc, &linear(alloc, 1, 0, 0)?),
+                Err(PolyFault::DegreeOver)
+            )
+        );
+        assert!(rt; most.mul(alloc, &Poly::zero(alloc))?.is_zero());
+        Ok(())
+    }
+
+    #[test]
+    fn variables_are_derived_struck_and_exchanged(rt: HostRuntime) -> Result<(), Fail> {
+        let alloc = rt.alloc();
+        let square = power(alloc, [2, 0, 0, 0, 0, 0, 0, 0, 0], 1)?;
+        assert!(rt; square.divisible_by(1));
+        assert!(rt; square.derivative(alloc, 1)? == linear(alloc, 2, 0, 0)?);
+        let p = linear(alloc, 1, 0, 1)?;
+        assert!(rt; !p.divisible_by(1));
+        assert!(rt; p.set_zero(alloc, 1)? == linear(alloc, 0, 0, 1)?);
+        let exchanged = linear(alloc, 1, 2, 0)?.permute(alloc, &[2, 1, 3, 4, 5, 6, 7, 8, 9])?;
+        assert!(rt; exchanged == linear(alloc, 2, 1, 0)?);
+        Ok(())
+    }
 }

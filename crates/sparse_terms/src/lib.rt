@@ -1,5 +1,5 @@
-// Finite maps from keys to residues that are not zero, as lists of terms in descending order of their
-// keys. Polynomials, vectors and rows are such lists, and differ in their keys alone.
+//! Finite maps from keys to residues that are not zero, as lists of terms in descending order of their
+//! keys. Polynomials, vectors and rows are such lists, and differ in their keys alone.
 #![tactic(auto)]
 
 ghost use Rattle.std.specs.Prelude.{◌≡◌, [], ◌∷◌, ◌++◌, IfOk, IsPermutation};
@@ -7,7 +7,7 @@ ghost use Rattle.std.specs.declared.cmp.Ordering.{Ordering};
 ghost use Rattle.std.specs.Ordering.{eq_by_cmp};
 ghost use Rattle.std.specs.Cmp.{IsTotalOrder};
 ghost use Rattle.std.specs.FinMap.{IsAntisymmetric};
-ghost use Rattle.ibp_algebra.specs.FormalSum.{SameCoefficients, IsCanonical, Descends, with_term, join_last};
+ghost use Rattle.ibp_algebra.specs.FormalSum.{SameCoefficients, IsCanonical, Descends, scale, with_term, join_last};
 
 use ibp_field::Residue;
 use std::alloc::{AllocError, Global};
@@ -25,7 +25,7 @@ pub trait KeyOrder<K> {
     ghost unique: { IsAntisymmetric order };
 }
 
-/// The map of the sum of these terms, greatest key first.
+/// The map of the sum of these terms, greatest key first. Keys may repeat, in any order.
 pub fn sum_of_terms<K: Copy, O: KeyOrder<K>>(
     alloc: Global,
     terms: &[(K, Residue)],
@@ -43,6 +43,53 @@ pub fn sum_of_terms<K: Copy, O: KeyOrder<K>>(
         append_term::<K, O>(&mut joined, term.0, term.1)?;
     }
     Ok(joined)
+}
+
+/// The left map plus a multiple of the right one, greatest key first, in one pass over both.
+pub fn add_multiple<K: Copy, O: KeyOrder<K>>(
+    alloc: Global,
+    left: &[(K, Residue)],
+    factor: Residue,
+    right: &[(K, Residue)],
+) -> Result<Vec<(K, Residue)>, AllocError>
+    requires left { IsCanonical O.order left.now }
+    requires right { IsCanonical O.order right.now }
+    ensures sum { IfOk result (λ v. SameCoefficients (eq_by_cmp O.order) v.items (left.now ++ scale factor right.now)) }
+    ensures canonical { IfOk result (λ v. IsCanonical O.order v.items) }
+{
+    let mut terms = Vec::new(alloc);
+    let mut i = 0;
+    let mut j = 0;
+    'both: while i < left.len() && j < right.len() {
+        let first = left[i];
+        let second = right[j];
+        match O::compare(&first.0, &second.0) {
+            Ordering::Greater => {
+                push_term(&mut terms, first.0, first.1)?;
+                i += 1;
+            }
+            Ordering::Less => {
+                push_term(&mut terms, second.0, factor.mul(second.1))?;
+                j += 1;
+            }
+            Ordering::Equal => {
+                push_term(&mut terms, first.0, first.1.add(factor.mul(second.1)))?;
+                i += 1;
+                j += 1;
+            }
+        }
+    }
+    'left: while i < left.len() {
+        let first = left[i];
+        push_term(&mut terms, first.0, first.1)?;
+        i += 1;
+    }
+    'right: while j < right.len() {
+        let second = right[j];
+        push_term(&mut terms, second.0, factor.mul(second.1))?;
+        j += 1;
+    }
+    Ok(terms)
 }
 
 // Greatest first.
@@ -82,4 +129,47 @@ fn append_term<K: Copy, O: KeyOrder<K>>(
         }
     }
     push_term(terms, key, value)
+}
+
+#[cfg(test)]
+mod tests {
+    use super::*;
+    use std::test::Fail;
+
+    // The order of numbers.
+    struct Ascending;
+
+    impl KeyOrder<u8> for Ascending {
+        ghost use Rattle.std.specs.Ordering.{nat_cmp};
+        ghost use Rattle.std.specs.Cmp.{nat_cmp_total};
+        ghost use Rattle.std.specs.FinMap.{nat_cmp-IsAntisymmetric};
+
+        ghost order = { nat_cmp };
+
+        ghost total = { nat_cmp_total };
+
+        ghost unique = { nat_cmp-IsAntisymmetric };
+
+        fn compare(left: &u8, right: &u8) -> Ordering {
+            left.cmp(right)
+        }
+    }
+
+    #[test]
+    fn terms_are_sorted_and_joined(rt: HostRuntime) -> Result<(), Fail> {
+        let alloc = rt.alloc();
+        let one = Residue::one();
+        let left = sum_of_terms::<u8, Ascending>(
+            alloc,
+            &[(1, one), (3, one), (1, one), (2, Residue::zero())],
+        )?;
+        assert!(rt; left.as_slice() == [(3, one), (1, Residue::of(2))].as_slice());
+        let right = sum_of_terms::<u8, Ascending>(alloc, &[(3, one), (2, one), (0, one)])?;
+        let difference = add_multiple::<u8, Ascending>(alloc, &left, one.neg(), &right)?;
+        assert!(rt;
+            difference.as_slice()
+                == [(2, one.neg()), (1, Residue::of(2)), (0, one.neg())].as_slice()
+        );
+        Ok(())
+    }
 }

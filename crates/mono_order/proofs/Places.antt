@@ -1,0 +1,109 @@
+-- The loops over the exponents of two power products, place by place.
+use Rattle.std.proofs.Common.{◌≡◌, ◌≢◌, ℕ, zero, suc, ◌+◌, ◌-◌, ◌<◌, ◌≤◌, Bool, true, false, List, [], ◌∷◌, sum, length, get_or, set, sym, refl, ap, ◌∙◌, arith, below_more, get_or-set_other, get_or-set_same, zero-add, add-zero}
+use Rattle.std.specs.Prelude.{nat_eq, nat_le, max}
+use Rattle.std.specs.Cmp.{unsigned_Decides}
+use Rattle.std.proofs.lemmas.Bool.{leb-true, le-leb}
+use Rattle.std.proofs.lemmas.List.Sums.{sum_by-cons}
+use Rattle.std.proofs.lemmas.Grind.{same_number_lists}
+use Rattle.std.proofs.Math.ListN.{length-set}
+use Rattle.ibp_algebra.specs.Exponents.{add_exponents}
+use Rattle.ibp_algebra.proofs.ExponentLaws.{length-padded_sum, get_or-padded_sum}
+use Rattle.mono_order.specs.Term.{divides_exponents, quotient_exponents, lcm_exponents}
+use Rattle.mono_order.proofs.Terms.{both_true, and_true, length-quotient}
+
+-- the places before i have been combined by `op` with those of b, and the others are those of a
+pub record Combined (op : ℕ → ℕ → ℕ) (n : ℕ) (a b xs : List ℕ) (i : ℕ) : Type 0 where
+  pub long : length xs ≡ n
+  pub done : (k : ℕ) → k < i → get_or xs k 0 ≡ op (get_or a k 0) (get_or b k 0)
+  pub rest : (k : ℕ) → i ≤ k → get_or xs k 0 ≡ get_or a k 0
+
+pub Combined-start : (op : ℕ → ℕ → ℕ) (n : ℕ) (a b : List ℕ) → length a ≡ n → Combined op n a b a 0
+Combined-start op n a b p = record { long = p; done = λ k h. absurd (omega arith); rest = λ k h. refl }
+
+combined_at : (op : ℕ → ℕ → ℕ) (xs a b : List ℕ) (i y : ℕ) → i < length xs → y ≡ op (get_or a i 0) (get_or b i 0)
+    → ((k : ℕ) → k < i → get_or xs k 0 ≡ op (get_or a k 0) (get_or b k 0))
+    → (k : ℕ) → k < i + 1 → get_or (set xs i y) k 0 ≡ op (get_or a k 0) (get_or b k 0)
+combined_at op xs a b i y within is done =
+    below_more _ _
+    (λ k h. let other : k ≢ i = omega arith in rw get_or-set_other (done k h))
+    (rw get_or-set_same is)
+
+kept_after : (xs a : List ℕ) (i y : ℕ) → ((k : ℕ) → i ≤ k → get_or xs k 0 ≡ get_or a k 0) → (k : ℕ) → i + 1 ≤ k → get_or (set xs i y) k 0 ≡ get_or a k 0
+kept_after xs a i y rest k h = let other : k ≢ i = omega arith in rw get_or-set_other (rest k (omega arith))
+
+-- one more place
+pub Combined-step : (op : ℕ → ℕ → ℕ) (n : ℕ) (a b xs : List ℕ) (i y : ℕ) → i < n → y ≡ op (get_or xs i 0) (get_or b i 0)
+    → Combined op n a b xs i → Combined op n a b (set xs i y) (i + 1)
+Combined-step op n a b xs i y within is h = record {
+  long = length-set xs i y ∙ h.long;
+  done = combined_at op xs a b i y (omega (arith, h.long)) (is ∙ ap (λ x. op x (get_or b i 0)) (h.rest i (omega arith))) h.done;
+  rest = kept_after xs a i y h.rest;
+}
+
+-- the list that has the combined exponents at each place
+combined_whole : (op : ℕ → ℕ → ℕ) (n i : ℕ) (a b xs whole : List ℕ) → n ≤ i → Combined op n a b xs i → length whole ≡ n
+    → ((k : ℕ) → get_or whole k 0 ≡ op (get_or a k 0) (get_or b k 0)) → xs ≡ whole
+combined_whole op n i a b xs whole end h long at =
+    same_number_lists xs whole (omega (arith, long, h.long)) (λ k within. h.done k (omega (arith, h.long)) ∙ sym (at k))
+
+pub sum_whole : (n i : ℕ) (a b xs : List ℕ) → length a ≡ n → length b ≡ n → n ≤ i → Combined ◌+◌ n a b xs i → xs ≡ add_exponents a b
+sum_whole n i a b xs p q end h =
+    combined_whole ◌+◌ n i a b xs (add_exponents a b) end h (length-padded_sum ◌+◌ n a b p q) (get_or-padded_sum ◌+◌ 0 zero-add add-zero a b)
+
+max_zero : (x : ℕ) → max x 0 ≡ x
+max_zero x = omega arith
+
+zero_max : (x : ℕ) → max 0 x ≡ x
+zero_max x = omega arith
+
+pub lcm_whole : (n i : ℕ) (a b xs : List ℕ) → length a ≡ n → length b ≡ n → n ≤ i → Combined max n a b xs i → xs ≡ lcm_exponents a b
+lcm_whole n i a b xs p q end h =
+    combined_whole max n i a b xs (lcm_exponents a b) end h (length-padded_sum max n a b p q) (get_or-padded_sum max 0 zero_max max_zero a b)
+
+get_or-quotient : (a b : List ℕ) (k : ℕ) → get_or (quotient_exponents a b) k 0 ≡ get_or a k 0 - get_or b k 0
+get_or-quotient [] b k = omega arith
+get_or-quotient (x ∷ a) [] k = omega arith
+get_or-quotient (x ∷ a) (y ∷ b) zero = refl
+get_or-quotient (x ∷ a) (y ∷ b) (suc k) = get_or-quotient a b k
+
+pub quotient_whole : (n i : ℕ) (a b xs : List ℕ) → length a ≡ n → length b ≡ n → n ≤ i → Combined ◌-◌ n a b xs i → xs ≡ quotient_exponents a b
+quotient_whole n i a b xs p q end h =
+    combined_whole ◌-◌ n i a b xs (quotient_exponents a b) end h (length-quotient n b a q p) (get_or-quotient a b)
+
+sum-cons : (x : ℕ) (xs : List ℕ) → sum (x ∷ xs) ≡ x + sum xs
+sum-cons x xs = sum_by-cons (λ y. y) x xs
+
+-- no exponent of a divisor is greater
+pub divides-at : (xs ys : List ℕ) → divides_exponents xs ys ≡ true → (k : ℕ) → get_or xs k 0 ≤ get_or ys k 0
+divides-at [] ys e k = omega arith
+divides-at (x ∷ xs) [] e zero = omega (arith, (unsigned_Decides x 0).0 (both_true (nat_eq x 0) (divides_exponents xs []) e).0)
+divides-at (x ∷ xs) [] e (suc k) = divides-at xs [] (both_true (nat_eq x 0) (divides_exponents xs []) e).1 k
+divides-at (x ∷ xs) (y ∷ ys) e zero = leb-true x y (both_true (nat_le x y) (divides_exponents xs ys) e).0
+divides-at (x ∷ xs) (y ∷ ys) e (suc k) = divides-at xs ys (both_true (nat_le x y) (divides_exponents xs ys) e).1 k
+
+-- and a list of which none is greater divides
+pub divides_from_places : (n : ℕ) (xs ys : List ℕ) → length xs ≡ n → length ys ≡ n → ((k : ℕ) → k < n → get_or xs k 0 ≤ get_or ys k 0) → divides_exponents xs ys ≡ true
+divides_from_places n [] ys p q h = refl
+divides_from_places n (x ∷ xs) [] p q h = absurd (omega arith)
+divides_from_places zero (x ∷ xs) (y ∷ ys) p q h = absurd (omega arith)
+divides_from_places (suc n) (x ∷ xs) (y ∷ ys) p q h =
+    and_true _ _ (le-leb x y (h 0 (omega arith))) (divides_from_places n xs ys (omega arith) (omega arith) (λ k l. h (suc k) (omega arith)))
+
+is_false : (b : Bool) → ¬ (b ≡ true) → b ≡ false
+is_false true h = absurd (h refl)
+is_false false h = refl
+
+-- a greater exponent at one place is enough not to divide
+pub divides_not : (xs ys : List ℕ) (k : ℕ) → get_or ys k 0 < get_or xs k 0 → divides_exponents xs ys ≡ false
+divides_not xs ys k more = is_false _ (λ e. absurd (omega (arith, more, divides-at xs ys e k)))
+
+-- the degree of a quotient is the difference of the degrees
+pub sum-quotient : (n : ℕ) (xs ys : List ℕ) → length xs ≡ n → length ys ≡ n → divides_exponents xs ys ≡ true → sum (quotient_exponents ys xs) + sum xs ≡ sum ys
+sum-quotient n [] [] p q e = refl
+sum-quotient n [] (y ∷ ys) p q e = absurd (omega arith)
+sum-quotient n (x ∷ xs) [] p q e = absurd (omega arith)
+sum-quotient zero (x ∷ xs) (y ∷ ys) p q e = absurd (omega arith)
+sum-quotient (suc n) (x ∷ xs) (y ∷ ys) p q e =
+    let parts = both_true (nat_le x y) (divides_exponents xs ys) e in
+    let less : x ≤ y = leb-true x y parts.0 in
+    omega (arith, less, sum-quotient n xs ys (omega arith) (omega arith) parts.1, sum-cons x xs, sum-cons y ys, sum-cons (y - x) (quotient_exponents ys xs))

@@ -1,0 +1,8 @@
+/// The number of variables of a monomial.
+pub const VARIABLES: usize = 9;
+
+/// The greatest total degree of a monomial.
+pub const MONO_DEGREE: u16 = 300;
+
+/// The greatest total degree of a term of a module vector, and of each least common multiple in a run.
+pub const RUN_DEGREE: u16 = 250;
