@@ -1,0 +1,8 @@
+//! Division of module vectors by a list, and the S-vector of two of them.
+#![tactic(auto)]
+
+mod division;
+mod s_vectors;
+
+pub use division::normal_form;
+pub use s_vectors::s_vector;

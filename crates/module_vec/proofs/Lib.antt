@@ -1,0 +1,11 @@
+pub mod Multiples
+pub mod Submodules
+pub mod DivisionLaws
+pub mod Monic
+pub mod Members
+pub mod Textbook
+pub mod Measure
+pub mod DivisionSteps
+pub mod Degrees
+pub mod NormalForms
+pub mod Components

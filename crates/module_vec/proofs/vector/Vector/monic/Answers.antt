@@ -1,0 +1,24 @@
+use Rattle.std.proofs.Common.{[], sym, ap, ◌∙◌, refl}
+use Rattle.ibp_field.specs.Arithmetic.{mul_mod}
+use Rattle.module_vec.proofs.Multiples.{lead_coefficient-not_zero}
+use Rattle.module_vec.proofs.NormalForms.{joined, IsVector-sum, AllKeys-of_sum, is_monic_of}
+use Rattle.module_vec.proofs.vector.Vector.monic.Goals as goal
+
+pub unreachable-requires-in_default-inverse : goal.unreachable-requires-in_default-inverse
+unreachable-requires-in_default-inverse g c =
+    lead_coefficient-not_zero g.O.TermOrder.order _ c.terms-terms.ensures.canonical.canonical c.requires (sym c.in-Some.ensures.coefficient ∙ c.in_default-inverse.ensures.none.0 refl)
+
+pub invariant_of-result : goal.invariant_of-result
+invariant_of-result g c =
+    let laws = g.met.O.TermOrder.laws in
+    let is = joined laws [] c.args.self.now _ _ _ c.in-Some-inverse.inverse refl c.terms-terms.ensures.same c.in_ok-sum_with_multiple.ensures in (
+      IsVector-sum laws [] _ _ _ is tt c.terms-terms.ensures.canonical.terms,
+      AllKeys-of_sum laws _ [] _ _ _ is tt c.terms-terms.ensures.bounded,
+    )
+
+pub returns : goal.returns
+returns g c =
+    let laws = g.met.O.TermOrder.laws in
+    is_monic_of laws c.args.self.now _ c.in-Some-inverse.inverse c.terms-terms.ensures.canonical.canonical c.requires
+    (ap (λ n. mul_mod n c.in-Some-inverse.inverse) (sym c.in-Some.ensures.coefficient) ∙ c.in-Some-inverse.ensures.inverse)
+    (joined laws [] c.args.self.now _ _ _ c.in-Some-inverse.inverse refl c.terms-terms.ensures.same c.in_ok-sum_with_multiple.ensures)

@@ -1,0 +1,8 @@
+//! Vectors of a free module over the polynomials, as sorted lists of terms under any order of terms.
+#![tactic(auto)]
+
+mod fault;
+mod vector;
+
+pub use fault::VectorFault;
+pub use vector::Vector;

@@ -1,0 +1,73 @@
+//! Why a text stands for no polynomial.
+
+use ibp_base::NoMemory;
+use std::alloc::{AllocError, AllocFailed};
+use thiserror::Error;
+
+/// What is wrong with a text, with the place, which counts the bytes before it.
+#[derive(Clone, Copy, Debug, PartialEq, Eq, Error)]
+pub enum TextFault {
+    /// The text is not of the grammar, whatever follows this place.
+    #[error("syntax at {at}")]
+    Syntax { at: u32 },
+    /// A name that stands for nothing.
+    #[error("unknown name at {at}")]
+    UnknownName { at: u32 },
+    /// A whole number above 2^128 - 1.
+    #[error("number over at {at}")]
+    NumberOver { at: u32 },
+    /// An exponent above 20.
+    #[error("power over at {at}")]
+    PowerOver { at: u32 },
+    /// The 65th parenthesis that is open at once.
+    #[error("depth over at {at}")]
+    DepthOver { at: u32 },
+    /// A divisor that is zero modulo the prime.
+    #[error("zero divisor at {at}")]
+    ZeroDivisor { at: u32 },
+    /// A divisor with a variable.
+    #[error("not constant at {at}")]
+    NotConstant { at: u32 },
+    /// A product of degree above 24.
+    #[error("degree over at {at}")]
+    DegreeOver { at: u32 },
+    /// A sum or a product of more than 20,000 terms.
+    #[error("terms over at {at}")]
+    TermsOver { at: u32 },
+    /// Memory ran out.
+    #[error("no memory")]
+    NoMemory,
+}
+
+impl From<NoMemory> for TextFault {
+    ghost use Rattle.std.specs.Prelude.{◌≡◌};
+    ghost use Rattle.poly_text.specs.declared.fault.TextFault.{TextFault};
+
+    ghost from_gives = { λ _ e. e ≡ TextFault.NoMemory };
+
+    fn from(_: NoMemory) -> TextFault {
+        TextFault::NoMemory
+    }
+}
+
+impl From<AllocError> for TextFault {
+    ghost use Rattle.std.specs.Prelude.{◌≡◌};
+    ghost use Rattle.poly_text.specs.declared.fault.TextFault.{TextFault};
+
+    ghost from_gives = { λ _ e. e ≡ TextFault.NoMemory };
+
+    fn from(_: AllocError) -> TextFault {
+        TextFault::NoMemory
+    }
+}
+
+impl<T: Drop> From<AllocFailed<T>> for TextFault {
+    ghost use Rattle.std.specs.Prelude.{◌≡◌};
+    ghost use Rattle.poly_text.specs.declared.fault.TextFault.{TextFault};
+
+    ghost from_gives = { λ _ e. e ≡ TextFault.NoMemory };
+
+    fn from(_: AllocFailed<T>) -> TextFault {
+        TextFault::NoMemory
+    }
+}

@@ -1,0 +1,6 @@
+use Rattle.std.proofs.Common.{◌≤◌, ◌^◌, arith}
+use Rattle.std.proofs.Math.Pow.{pow_mono}
+use Rattle.sector_lattice.proofs.supersector.sector_count.Goals as goal
+
+pub returns-clause-bound : goal.returns-clause-bound
+returns-clause-bound c = let few : c.from.result ≤ 9 = omega arith in let most : 2 ^ c.from.result ≤ 2 ^ 9 = pow_mono few in omega arith

@@ -1,0 +1,31 @@
+//! Laws of the orders and of the subsector relation, each the contract of a call that does nothing.
+ghost use Rattle.std.specs.Prelude.{◌≡◌, ◌<◌, ◌≤◌, ◌-◌, ◌↔◌, IsTrue, ℕ, ℤ, pos, List, slice_index_or, bit_and};
+ghost use Rattle.std.specs.Cmp.{IsTotalOrder};
+ghost use Rattle.sector_lattice.specs.Sectors.{IsMember, is_positive, sector_of, IsSubsector, IsProperSubsector, sector_cmp, integral_cmp};
+
+use std::cmp::Ordering;
+
+/// The sector order is total, and only equal sectors tie.
+pub fn sector_order()
+    ensures total { IsTotalOrder sector_cmp }
+    ensures exact { (a b : ℕ) → sector_cmp a b ≡ Ordering.Equal → a ≡ b }
+{}
+
+/// The integral order is total, and only equal integrals tie.
+pub fn integral_order()
+    ensures total { IsTotalOrder integral_cmp }
+    ensures exact { (a b : List ℤ) → integral_cmp a b ≡ Ordering.Equal → a ≡ b }
+{}
+
+/// A sector is a subsector of another where it shares all its digits with it, and a proper
+/// subsector has the lesser number.
+pub fn subsectors()
+    ensures digits { (inner outer : ℕ) → IsSubsector inner outer ↔ (bit_and inner outer ≡ inner) }
+    ensures lesser { (inner outer : ℕ) → IsProperSubsector inner outer → inner < outer }
+    ensures transitive { (a b c : ℕ) → IsProperSubsector a b → IsProperSubsector b c → IsProperSubsector a c }
+{}
+
+/// The members of an integral's sector are the places of its positive powers.
+pub fn sector_members()
+    ensures { (powers : List ℤ) (i : ℕ) → IsMember (sector_of powers) i ↔ ((1 ≤ i) × IsTrue (is_positive (slice_index_or powers (i - 1) (pos 0)))) }
+{}

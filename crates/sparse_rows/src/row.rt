@@ -1,0 +1,185 @@
+ghost use Rattle.std.specs.Prelude.{◌≡◌, ◌↔◌, [], ◌++◌, IfOk, IsNone, slice_get, IfSome};
+ghost use Rattle.std.specs.Cmp.{partial_equiv_from_equiv};
+ghost use Rattle.ibp_algebra.specs.FormalSum.{IsCanonical, scale, strike};
+ghost use Rattle.ibp_algebra.specs.Spans.{IsLead};
+ghost use Rattle.sector_lattice.specs.Sectors.{integral_cmp};
+ghost use Rattle.sparse_rows.specs.Rows.{SameRow, coefficient_of, lies_in, is_zero, is_zero_integral, same_terms};
+ghost use Rattle.sparse_rows.specs.Equality.{same_terms_equiv};
+
+use ibp_base::NoMemory;
+use ibp_field::Residue;
+use sector_lattice::{Integral, Sector, is_subsector};
+use sparse_terms::{KeyOrder, add_multiple, sum_of_terms};
+use std::alloc::Global;
+use std::cmp::Ordering;
+use std::marker::Model;
+
+// The order of integrals, as an order on keys.
+struct ByIntegral;
+
+impl KeyOrder<Integral> for ByIntegral {
+    ghost use Rattle.sector_lattice.specs.Sectors.{integral_cmp};
+    ghost use Rattle.sector_lattice.specs.Orders.{integral_cmp_total, same_integrals};
+
+    ghost order = { integral_cmp };
+
+    ghost total = { integral_cmp_total };
+
+    ghost unique = { same_integrals };
+
+    fn compare(left: &Integral, right: &Integral) -> Ordering {
+        left.compare(right)
+    }
+}
+
+/// A finite sum of integrals, all with the same number of powers. Contracts see it as the list of its
+/// terms, highest first.
+#[derive(Drop)]
+pub struct Row {
+    terms: Vec<(Integral, Residue)>,
+}
+
+impl Model for Row {
+    ghost use Rattle.std.specs.Prelude.{List, ℕ, ℤ};
+
+    ghost Value = { List (List ℤ × ℕ) };
+
+    ghost use Rattle.sector_lattice.specs.Sectors.{integral_cmp};
+    ghost use Rattle.ibp_algebra.specs.FormalSum.{IsCanonical};
+
+    ghost view = { λ r. r.terms.items };
+
+    ghost invariant = { λ r. IsCanonical integral_cmp r.terms.items };
+}
+
+impl Row {
+    /// The sum of the terms, in any order and with repeats.
+    pub fn from_terms(alloc: Global, terms: &[(Integral, Residue)]) -> Result<Row, NoMemory>
+        ensures sum { IfOk result (λ row. SameRow row terms.now) }
+        ensures canonical { IfOk result (λ row. IsCanonical integral_cmp row) }
+    {
+        Ok(Row {
+            terms: sum_of_terms::<Integral, ByIntegral>(alloc, terms)?,
+        })
+    }
+
+    /// The same row.
+    pub fn copy(&self, alloc: Global) -> Result<Row, NoMemory>
+        ensures same { IfOk result (λ row. row ≡ self.now) }
+        ensures canonical { IfOk result (λ row. IsCanonical integral_cmp row) }
+    {
+        Ok(Row {
+            terms: self.terms.to_vec(alloc)?,
+        })
+    }
+
+    /// This row plus a multiple of the other one.
+    pub fn add_multiple(&self, alloc: Global, factor: Residue, other: &Row) -> Result<Row, NoMemory>
+        ensures sum { IfOk result (λ row. SameRow row (self.now ++ scale factor other.now)) }
+        ensures canonical { IfOk result (λ row. IsCanonical integral_cmp row) }
+    {
+        Ok(Row {
+            terms: add_multiple::<Integral, ByIntegral>(alloc, &self.terms, factor, &other.terms)?,
+        })
+    }
+
+    /// The terms, highest first.
+    pub fn terms(&self) -> &[(Integral, Residue)]
+        ensures same { result.now ≡ self.now }
+        ensures canonical { IsCanonical integral_cmp self.now }
+    {
+        &self.terms
+    }
+
+    /// The highest term. `None` exactly for the empty row.
+    pub fn lead(&self) -> Option<(Integral, Residue)>
+        ensures first { result ≡ slice_get self.now 0 }
+        ensures none { IsNone result ↔ (self.now ≡ []) }
+        ensures lead { IfSome result (λ term. IsLead integral_cmp self.now term.0) }
+    {
+        self.terms.first().copied()
+    }
+
+    /// The coefficient at an integral, zero where it does not occur.
+    pub fn coefficient(&self, of: &Integral) -> Residue
+        ensures { result ≡ coefficient_of self.now of.now }
+    {
+        match self.terms.binary_search_by(|term| of.compare(&term.0)) {
+            Ok(place) => self.terms[place].1,
+            Err(_) => Residue::zero(),
+        }
+    }
+
+    /// The row without the integrals whose sector is a subsector of a listed one.
+    pub fn strike(&self, alloc: Global, zero: &[Sector]) -> Result<Row, NoMemory>
+        ensures struck { IfOk result (λ row. row ≡ strike (is_zero_integral zero.now) self.now) }
+        ensures canonical { IfOk result (λ row. IsCanonical integral_cmp row) }
+    {
+        let mut kept = Vec::new(alloc);
+        for (integral, value) in &self.terms {
+            if !is_listed(zero, integral.sector()) {
+                kept.push((*integral, *value))?;
+            }
+        }
+        Ok(Row { terms: kept })
+    }
+}
+
+impl PartialEq for Row {
+    ghost eq = { same_terms };
+
+    ghost laws = { partial_equiv_from_equiv same_terms_equiv };
+
+    fn eq(&self, other: &Row) -> bool {
+        self.terms() == other.terms()
+    }
+}
+
+impl Eq for Row {
+    ghost laws = { same_terms_equiv };
+}
+
+// Whether the sector is a subsector of a listed one.
+fn is_listed(zero: &[Sector], sector: Sector) -> bool
+    ensures { result ≡ is_zero zero.now sector.0 }
+{
+    zero.iter().any(|outer| lies_in(sector, *outer))
+}
+
+fn lies_in(inner: Sector, outer: Sector) -> bool
+    ensures { result ≡ lies_in inner.0 outer.0 }
+{
+    is_subsector(inner, outer)
+}
+
+#[cfg(test)]
+mod tests {
+    use super::*;
+    use std::test::Fail;
+
+    fn integral(powers: &[i16]) -> Result<Integral, Fail> {
+        let found = Integral::new(powers).ok_or("out of range")?;
+        Ok(found)
+    }
+
+    fn is_shared<T: Send + Sync>(_: &T) {}
+
+    #[test]
+    fn strikes_a_sector_and_subtracts_the_rest(rt: HostRuntime) -> Result<(), Fail> {
+        let alloc = rt.alloc();
+        let both = integral(&[1, 2])?;
+        let second = integral(&[0, 2])?;
+        let row = Row::from_terms(alloc, &[(second, Residue::one()), (both, Residue::one())])?;
+        assert!(rt; row.terms() == [(both, Residue::one()), (second, Residue::one())].as_slice());
+        assert_eq!(rt; row.coefficient(&second), Residue::one());
+        let struck = row.strike(alloc, &[Sector(2)])?;
+        assert!(rt; struck.terms() == [(both, Residue::one())].as_slice());
+        let rest = row.add_multiple(alloc, Residue::from_i64(-1), &struck)?;
+        assert!(rt; rest.terms() == [(second, Residue::one())].as_slice());
+        assert!(rt; rest.lead() == Some((second, Residue::one())));
+        assert!(rt; rest == rest.copy(alloc)? && rest != row);
+        assert!(rt; Row::from_terms(alloc, &[])?.lead().is_none());
+        is_shared(&rest);
+        Ok(())
+    }
+}

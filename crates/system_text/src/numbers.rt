@@ -1,0 +1,36 @@
+// Numbers put at the end of a text.
+ghost use Rattle.std.specs.Prelude.{◌≡◌, ◌++◌, OnOk, decimal};
+ghost use Rattle.std.specs.Fmt.{signed_decimal};
+ghost use Rattle.system_text.specs.Texts.{residue_text};
+
+use ibp_base::NoMemory;
+use ibp_field::Residue;
+use itoa::Buffer;
+
+pub fn put_bytes(text: &mut Vec<u8>, bytes: &[u8]) -> Result<(), NoMemory>
+    ensures { OnOk result (text.new.items ≡ text.old.items ++ bytes.now) }
+{
+    text.extend_from_slice(bytes)?;
+    Ok(())
+}
+
+pub fn put_whole(text: &mut Vec<u8>, number: u16) -> Result<(), NoMemory>
+    ensures { OnOk result (text.new.items ≡ text.old.items ++ decimal number) }
+{
+    let mut buffer = Buffer::new();
+    put_bytes(text, buffer.format(number).as_bytes())
+}
+
+pub fn put_signed(text: &mut Vec<u8>, number: i16) -> Result<(), NoMemory>
+    ensures { OnOk result (text.new.items ≡ text.old.items ++ signed_decimal number) }
+{
+    let mut buffer = Buffer::new();
+    put_bytes(text, buffer.format(number).as_bytes())
+}
+
+pub fn put_residue(text: &mut Vec<u8>, residue: Residue) -> Result<(), NoMemory>
+    ensures { OnOk result (text.new.items ≡ text.old.items ++ residue_text residue) }
+{
+    let mut buffer = Buffer::new();
+    put_bytes(text, buffer.format(residue.value()).as_bytes())
+}
