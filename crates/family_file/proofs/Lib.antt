@@ -1,0 +1,15 @@
+pub mod Places
+pub mod Subsectors
+pub mod Keys
+pub mod Lists
+pub mod Collect
+pub mod Into
+pub mod Toml
+pub mod Front
+pub mod Binds
+pub mod TargetLimits
+pub mod SectorLimits
+pub mod PolynomialLimits
+pub mod TextLimits
+pub mod Filling
+pub mod FamilyLimits

@@ -1,0 +1,155 @@
+-- Powers and targets that are read are within their limits.
+use Rattle.std.proofs.Common.{◌≡◌, ℕ, zero, suc, ◌+◌, ◌≤◌, Bool, true, false, cond, ◌||◌, List, [], ◌∷◌, ◌++◌, length, Result, Ok, Err, refl, sym, ap, ◌∙◌, arith, length-append, subst, inl, inr}
+use Rattle.std.specs.Prelude.{ℤ, pos, negsuc, int_le, ◌≤ℤ◌, neg_ℤ, nat_lt, ◌==◌}
+use Rattle.std.specs.List.{All, AllByRecursion, IsDistinct, list_any}
+use Rattle.std.specs.Bool.{Decides}
+use Rattle.std.specs.Cmp.{int_eq_equiv}
+use Rattle.std.specs.Cmp.Lexicographic.{lists_equiv}
+use Rattle.std.specs.Int.Signed.{le_z_yes}
+use Rattle.std.proofs.Math.Facts.{leb_yes, yes_leb}
+use Rattle.std.proofs.lemmas.Float.{T_from_true}
+use Rattle.std.proofs.lemmas.Bool.Decides.{nat_tests}
+use Rattle.toml.specs.Data.{Data}
+use Rattle.ibp_algebra.specs.Laurent.{power_at, same_powers}
+use Rattle.sector_lattice.specs.Ranges.{InRange}
+use Rattle.family_file.specs.declared.fault.FileFault.{FileFault}
+use Rattle.family_file.specs.declared.fault.FileFault.TheVariants.{Targets}
+use Rattle.family_file.specs.Reading.{◌>>=◌, collect}
+use Rattle.family_file.specs.Arrays.{power_in, powers_from, powers_in, integer_in, list_in, with_target, first_seen, targets_of}
+use Rattle.family_file.specs.Shapes.{ArePowers}
+use Rattle.family_file.proofs.Binds.{bind_ok, where_ok, unless_ok, ok_is, whole_within, collect_each, collect_length, All-each}
+
+pub record IsPower (z : ℤ) : Type 0 where
+  pub low : negsuc 29 ≤ℤ z
+  pub high : z ≤ℤ pos 30
+
+power_in_range : (fault : FileFault) (d : Data) (z : ℤ) → power_in fault d ≡ Ok z → IsPower z
+unfolding power_in
+power_in_range fault d z h =
+    let read = bind_ok (integer_in fault d) _ z h in
+    let sides = whole_within fault (negsuc 29) (pos 30) read.0 z read.1.1 in
+    record { low = le_z_yes (T_from_true _ sides.0); high = le_z_yes (T_from_true _ sides.1) }
+
+lows : (zs : List ℤ) → AllByRecursion IsPower zs → (i : ℕ) → negsuc 29 ≤ℤ power_at zs i
+lows [] h i = le_z_yes tt
+lows (z ∷ zs) h zero = h.0.low
+lows (z ∷ zs) h (suc i) = lows zs h.1 i
+
+highs : (zs : List ℤ) → AllByRecursion IsPower zs → (i : ℕ) → power_at zs i ≤ℤ pos 30
+highs [] h i = le_z_yes tt
+highs (z ∷ zs) h zero = h.0.high
+highs (z ∷ zs) h (suc i) = highs zs h.1 i
+
+pub powers_are : (fault : FileFault) (n : ℕ) (ds : List Data) (zs : List ℤ) → powers_from fault n ds ≡ Ok zs → ArePowers n zs
+unfolding powers_from
+powers_are fault n ds zs h =
+    let read = where_ok (length ds == n) (collect (power_in fault) ds) fault zs h in
+    let each = collect_each IsPower (power_in fault) (power_in_range fault) ds zs read.1 in
+    let many : length ds ≡ n = grind (arith, nat_tests, read.0) in
+    record { count = collect_length (power_in fault) ds zs read.1 ∙ many; low = lows zs each; high = highs zs each }
+
+low_wide : (z : ℤ) → negsuc 29 ≤ℤ z → neg_ℤ (pos 600) ≤ℤ z
+low_wide (pos m) h = le_z_yes tt
+low_wide (negsuc m) h = le_z_yes (yes_leb (let small : m ≤ 29 = leb_yes h.le in omega (arith, small)))
+
+high_wide : (z : ℤ) → z ≤ℤ pos 30 → z ≤ℤ pos 600
+high_wide (pos m) h = le_z_yes (yes_leb (let small : m ≤ 30 = leb_yes h.le in omega (arith, small)))
+high_wide (negsuc m) h = le_z_yes tt
+
+wide : (z : ℤ) → IsPower z → (neg_ℤ (pos 600) ≤ℤ z) × (z ≤ℤ pos 600)
+wide z h = (low_wide z h.low, high_wide z h.high)
+
+pub powers_in_range : (fault : FileFault) (n : ℕ) (ds : List Data) (zs : List ℤ) → 1 ≤ n → n ≤ 9 → powers_from fault n ds ≡ Ok zs → InRange zs
+unfolding powers_from
+powers_in_range fault n ds zs some few h =
+    let read = where_ok (length ds == n) (collect (power_in fault) ds) fault zs h in
+    let each = All-each IsPower zs (collect_each IsPower (power_in fault) (power_in_range fault) ds zs read.1) in
+    let many : length ds ≡ n = grind (arith, nat_tests, read.0) in
+    let long : length zs ≡ n = collect_length (power_in fault) ds zs read.1 ∙ many in
+    record { some = omega (arith, long, some); few = omega (arith, long, few); small = λ k d below. wide _ (each k d below) }
+
+pub powers_in_are : (fault : FileFault) (n : ℕ) (d : Data) (zs : List ℤ) → powers_in fault n d ≡ Ok zs → ArePowers n zs
+unfolding powers_in
+powers_in_are fault n d zs h =
+    let read = bind_ok (list_in fault d) _ zs h in
+    powers_are fault n read.0 zs read.1.1
+
+-- ---- each target once
+
+pub append_each : {X : Type 0} (P : X → Type 0) (xs : List X) (y : X) → AllByRecursion P xs → P y → AllByRecursion P (xs ++ y ∷ [])
+append_each P [] y h p = (p, tt)
+append_each P (x ∷ xs) y h p = (h.0, append_each P xs y h.1 p)
+
+seen_each : (P : List ℤ → Type 0) (seen : List (List ℤ)) (t : List ℤ) → AllByRecursion P seen → P t → AllByRecursion P (with_target seen t)
+seen_each P seen t h p =
+    elim (list_any (same_powers t) seen) as (λ b. AllByRecursion P (cond b seen (seen ++ t ∷ []))) [
+      | true ↦ h
+      | false ↦ append_each P seen t h p
+    ]
+
+pub first_seen_each : (P : List ℤ → Type 0) (seen ts : List (List ℤ)) → AllByRecursion P seen → AllByRecursion P ts → AllByRecursion P (first_seen seen ts)
+first_seen_each P seen [] h k = h
+first_seen_each P seen (t ∷ ts) h k = first_seen_each P (with_target seen t) ts (seen_each P seen t h k.0) k.1
+
+seen_length : (seen : List (List ℤ)) (t : List ℤ) → length (with_target seen t) ≤ length seen + 1
+seen_length seen t =
+    elim (list_any (same_powers t) seen) as (λ b. length (cond b seen (seen ++ t ∷ [])) ≤ length seen + 1) [
+      | true ↦ omega arith
+      | false ↦ omega (arith, length-append seen (t ∷ []))
+    ]
+
+pub first_seen_length : (seen ts : List (List ℤ)) → length (first_seen seen ts) ≤ length seen + length ts
+first_seen_length seen [] = omega arith
+first_seen_length seen (t ∷ ts) = omega (arith, seen_length seen t, first_seen_length (with_target seen t) ts)
+
+other_way : (s t : List ℤ) → same_powers t s ≡ false → same_powers s t ≡ false
+other_way s t h = (lists_equiv int_eq_equiv).symm s t ∙ h
+
+differ_all : (t s : List ℤ) (xs : List (List ℤ)) → AllByRecursion (λ y. same_powers s y ≡ false) xs → same_powers s t ≡ false → AllByRecursion (λ y. same_powers s y ≡ false) (xs ++ t ∷ [])
+differ_all t s xs h k = append_each (λ y. same_powers s y ≡ false) xs t h k
+
+or_false : (a b : Bool) → (a || b) ≡ false → (a ≡ false) × (b ≡ false)
+or_false true b h = absurd (cc)
+or_false false b h = (refl, h)
+
+distinct_append : (t : List ℤ) (xs : List (List ℤ)) → IsDistinct same_powers xs → list_any (same_powers t) xs ≡ false → IsDistinct same_powers (xs ++ t ∷ [])
+unfolding IsDistinct
+distinct_append t [] h k = (tt, tt)
+distinct_append t (x ∷ xs) h k =
+    let parts = or_false (same_powers t x) (list_any (same_powers t) xs) k in
+    (differ_all t x xs h.0 (other_way x t parts.0), distinct_append t xs h.1 parts.1)
+
+seen_distinct : (seen : List (List ℤ)) (t : List ℤ) → IsDistinct same_powers seen → IsDistinct same_powers (with_target seen t)
+seen_distinct seen t h =
+    elim (list_any (same_powers t) seen) as (λ b. list_any (same_powers t) seen ≡ b → IsDistinct same_powers (cond b seen (seen ++ t ∷ []))) [
+      | true ↦ λ e. h
+      | false ↦ λ e. distinct_append t seen h e
+    ] refl
+
+pub first_seen_distinct : (seen ts : List (List ℤ)) → IsDistinct same_powers seen → IsDistinct same_powers (first_seen seen ts)
+first_seen_distinct seen [] h = h
+first_seen_distinct seen (t ∷ ts) h = first_seen_distinct (with_target seen t) ts (seen_distinct seen t h)
+
+nothing_distinct : IsDistinct same_powers []
+unfolding IsDistinct
+nothing_distinct = tt
+
+pub record AreTargets (n : ℕ) (targets : List (List ℤ)) : Type 0 where
+  pub few : length targets ≤ 1000
+  pub each : All (ArePowers n) targets
+  pub distinct : IsDistinct same_powers targets
+
+pub targets_are : (n : ℕ) (ds : List Data) (ts : List (List ℤ)) → targets_of n ds ≡ Ok ts → AreTargets n ts
+unfolding targets_of
+targets_are n ds ts h =
+    let within = unless_ok (nat_lt 1000 (length ds)) _ Targets ts h in
+    let read = bind_ok (collect (powers_in Targets n) ds) _ ts within.1 in
+    let seen : first_seen [] read.0 ≡ ts = ok_is _ _ read.1.1 in
+    let each = collect_each (ArePowers n) (powers_in Targets n) (powers_in_are Targets n) ds read.0 read.1.0 in
+    let many : length read.0 ≡ length ds = collect_length (powers_in Targets n) ds read.0 read.1.0 in
+    let few : length ds ≤ 1000 = grind (arith, nat_tests, within.0) in
+    subst (AreTargets n) seen (record {
+      few = omega (arith, first_seen_length [] read.0, many, few);
+      each = All-each (ArePowers n) (first_seen [] read.0) (first_seen_each (ArePowers n) [] read.0 tt each);
+      distinct = first_seen_distinct [] read.0 nothing_distinct;
+    })

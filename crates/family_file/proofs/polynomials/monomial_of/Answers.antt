@@ -1,0 +1,13 @@
+use Rattle.std.proofs.Common.{ap, refl, arith, ◌∙◌, ◌-◌, length, sum}
+use Rattle.family_file.proofs.Filling.{filled, padded_sum}
+use Rattle.family_file.proofs.polynomials.monomial_of.Goals as goal
+
+pub returns-in-Some : goal.returns-in-Some
+returns-in-Some c = c.in-Some.ensures.value ∙ filled c.args.exponents.now c.copy_from_slice.new.self c.copy_from_slice.ensures.after
+
+pub returns-in-None : goal.returns-in-None
+returns-in-None c =
+    let same = filled c.args.exponents.now c.copy_from_slice.new.self c.copy_from_slice.ensures.after in
+    let total = ap sum same ∙ padded_sum (9 - length c.args.exponents.now) c.args.exponents.now in
+    let over = c.in-None.ensures.none.0 refl in
+    absurd (omega (arith, over, total, c.requires.within))

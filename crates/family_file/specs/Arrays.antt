@@ -1,0 +1,80 @@
+-- Targets, seeds and zero sectors, which stand in arrays of integers.
+--     powers_from fault n ds      the powers of an integral of n variables
+--     targets_of n ds             the targets, each once, in the order in which they are first met
+--     zero_sectors_of n ds        the sectors of arrays of variables
+use Rattle.std.specs.Prelude.{ℕ, zero, suc, ◌+◌, ◌^◌, ◌==◌, ℤ, pos, negsuc, nat_eq, nat_lt, Bool, true, not, ◌&&◌, Option, Some, None, List, [], ◌∷◌, ◌++◌, length, Result, Ok, Err, if◌then◌else◌}
+use Rattle.std.specs.Option.{ok_or}
+use Rattle.std.specs.List.{list_any}
+use Rattle.toml.specs.Data.{Data, as_integer}
+use Rattle.ibp_algebra.specs.Laurent.{same_powers}
+use Rattle.sector_lattice.specs.declared.sector.Sector.{Sector}
+use Rattle.family_file.specs.declared.fault.FileFault.{FileFault}
+use Rattle.family_file.specs.declared.fault.FileFault.TheVariants.{Targets, ZeroSectors}
+use Rattle.family_file.specs.Reading.{◌>>=◌, collect}
+use Rattle.family_file.specs.Table.{as_list}
+use Rattle.family_file.specs.Numbers.{natural, whole}
+
+-- an integer, or the items of an array, in a place that has this fault
+abbrev pub integer_in : FileFault → Data → Result ℤ FileFault
+integer_in fault d = ok_or (as_integer d) fault
+
+abbrev pub list_in : FileFault → Data → Result (List Data) FileFault
+list_in fault d = ok_or (as_list d) fault
+
+-- a power of an integral
+unfoldable pub power_in : FileFault → Data → Result ℤ FileFault
+power_in fault d = do
+  z ← integer_in fault d
+  whole fault (negsuc 29) (pos 30) z
+
+-- the powers of an integral of n variables
+unfoldable pub powers_from : FileFault → ℕ → List Data → Result (List ℤ) FileFault
+powers_from fault n ds = if length ds == n then collect (power_in fault) ds else Err fault
+
+unfoldable pub powers_in : FileFault → ℕ → Data → Result (List ℤ) FileFault
+powers_in fault n d = do
+  ds ← list_in fault d
+  powers_from fault n ds
+
+-- the integrals before this one, and this one at the end unless it is among them
+abbrev pub with_target : List (List ℤ) → List ℤ → List (List ℤ)
+with_target seen powers = if list_any (same_powers powers) seen then seen else seen ++ powers ∷ []
+
+abbrev pub first_seen : List (List ℤ) → List (List ℤ) → List (List ℤ)
+first_seen seen [] = seen
+first_seen seen (powers ∷ others) = first_seen (with_target seen powers) others
+
+-- the targets, of which there are at most a thousand entries
+unfoldable pub targets_of : ℕ → List Data → Result (List (List ℤ)) FileFault
+targets_of n ds = if nat_lt 1000 (length ds) then Err Targets else do
+  targets ← collect (powers_in Targets n) ds
+  Ok (first_seen [] targets)
+
+-- the number of a variable
+unfoldable pub place_in : ℕ → Data → Result ℕ FileFault
+place_in n d = do
+  z ← integer_in ZeroSectors d
+  natural ZeroSectors 1 n z
+
+abbrev pub are_distinct : List ℕ → Bool
+are_distinct [] = true
+are_distinct (place ∷ places) = not (list_any (nat_eq place) places) && are_distinct places
+
+-- the sum of 2^(i - 1) over the variables i up to n that are among these
+abbrev pub sector_number : ℕ → List ℕ → ℕ
+sector_number zero places = 0
+sector_number (suc n) places = sector_number n places + (if list_any (nat_eq (suc n)) places then 2 ^ n else 0)
+
+abbrev pub sector_of_places : ℕ → List ℕ → Result Sector FileFault
+sector_of_places n places = if are_distinct places then Ok (record { 0 = sector_number n places }) else Err ZeroSectors
+
+unfoldable pub sector_in : ℕ → Data → Result Sector FileFault
+sector_in n d = do
+  ds ← list_in ZeroSectors d
+  places ← collect (place_in n) ds
+  sector_of_places n places
+
+-- the zero sectors, of which there are at most 512 entries
+unfoldable pub zero_sectors_of : ℕ → Option (List Data) → Result (List Sector) FileFault
+zero_sectors_of n None = Ok []
+zero_sectors_of n (Some ds) = if nat_lt 512 (length ds) then Err ZeroSectors else collect (sector_in n) ds

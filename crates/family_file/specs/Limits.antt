@@ -1,0 +1,73 @@
+-- The limits that the parts of every family are within.
+use denote.Struct.Props.{props}
+use Rattle.std.specs.Prelude.{◌≡◌, ◌≢◌, ℕ, ◌<◌, ◌≤◌, ◌^◌, ℤ, List, [], ◌∷◌, length, sum, Option}
+use Rattle.std.specs.declared.cmp.Ordering.{Ordering}
+use Rattle.std.specs.declared.cmp.Ordering.TheVariants.{Greater}
+use Rattle.std.specs.Coded.{×_prop, Unit-prop, le_prop}
+use Rattle.std.specs.Ordering.{Ordering-set}
+use Rattle.std.specs.List.{IsDistinct-prop}
+use Rattle.ibp_algebra.specs.FormalSum.{FormalSum, AllKeys, IsCanonical}
+use Rattle.std.specs.List.{All, IsDistinct}
+use Rattle.std.specs.Option.{ForSome}
+use Rattle.ibp_algebra.specs.Exponents.{deg_rev_lex}
+use Rattle.ibp_algebra.specs.Laurent.{same_powers}
+use Rattle.ibp_algebra.specs.Polynomial.{Polynomial}
+use Rattle.sector_lattice.specs.declared.sector.Sector.{Sector}
+use Rattle.family_file.specs.declared.parts.Bounds.{Bounds}
+use Rattle.family_file.specs.declared.parts.Budget.{Budget}
+use Rattle.family_file.specs.declared.parts.Probe.{Probe}
+use Rattle.family_file.specs.Shapes.{HasVariables, IsPolynomial, IsField, ArePowers}
+
+pub record BoundsWithin (bounds : Bounds) : Type 0 where
+  pub dots_cap : bounds.dots_cap ≤ 20
+  pub rank_cap : bounds.rank_cap ≤ 20
+  pub extra_dots : bounds.extra_dots ≤ 5
+  pub extra_rank : bounds.extra_rank ≤ 5
+
+pub record BudgetWithin (budget : Budget) : Type 0 where
+  pub pairs : budget.pairs ≤ 10000000
+  pub candidates : budget.candidates ≤ 20000
+
+pub record IsProbe (n : ℕ) (probe : Probe) : Type 0 where
+  pub field : IsField n 24 probe.field.a probe.field.b
+  pub seed : ArePowers n probe.seed
+
+pub record FamilyLimits (n : ℕ) (baikov : Polynomial) (targets : List (List ℤ)) (zero : List Sector) (bounds : Bounds) (budget : Budget) (probe : Option Probe) : Type 0 where
+  pub some_variables : 1 ≤ n
+  pub few_variables : n ≤ 9
+  pub polynomial : IsPolynomial n 24 baikov
+  pub few_terms : length baikov ≤ 20000
+  pub not_zero : baikov ≢ []
+  pub few_targets : length targets ≤ 1000
+  pub target_powers : All (ArePowers n) targets
+  pub distinct : IsDistinct same_powers targets
+  pub few_zero : length zero ≤ 512
+  pub zero_below : All (λ sector. sector.0 < 2 ^ n) zero
+  pub bounds_within : BoundsWithin bounds
+  pub budget_within : BudgetWithin budget
+  pub probe_fits : ForSome probe (IsProbe n)
+
+AllKeys-prop : {K : Type 0} (P : K → Type 0) → ((k : K) → IsProp (P k)) → (f : FormalSum K) → IsProp (AllKeys P f)
+AllKeys-prop P each [] = Unit-prop
+AllKeys-prop P each (term ∷ terms) = ×_prop (each term.0) (AllKeys-prop P each terms)
+
+canonical-prop : {K : Type 0} (order : K → K → Ordering) (f : FormalSum K) → IsProp (IsCanonical order f)
+canonical-prop order [] = Unit-prop
+canonical-prop order (term ∷ terms) =
+    let below = AllKeys-prop (λ k. order term.0 k ≡ Greater) (λ k. Ordering-set _ _) terms in
+    let others = canonical-prop order terms in
+    hlevel (props, below, others)
+
+has_variables-prop : (n : ℕ) (m : List ℕ) → IsProp (HasVariables n m)
+has_variables-prop n m = hlevel props
+
+polynomial-prop : (n degree : ℕ) (p : Polynomial) → IsProp (IsPolynomial n degree p)
+polynomial-prop n degree p =
+    let canonical = canonical-prop deg_rev_lex p in
+    let variables = AllKeys-prop (HasVariables n) (has_variables-prop n) p in
+    let within = AllKeys-prop (λ m. sum m ≤ degree) (λ m. le_prop) p in
+    hlevel (props, canonical, variables, within)
+
+-- a family is within the limits in one way at most
+pub limits-prop : (n : ℕ) (baikov : Polynomial) (targets : List (List ℤ)) (zero : List Sector) (bounds : Bounds) (budget : Budget) (probe : Option Probe) → IsProp (FamilyLimits n baikov targets zero bounds budget probe)
+limits-prop n baikov targets zero bounds budget probe = hlevel (props, polynomial-prop, IsDistinct-prop)

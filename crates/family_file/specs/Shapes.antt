@@ -1,0 +1,30 @@
+-- Shapes of polynomials, fields and integrals in n variables.
+--     HasVariables n m            nine exponents, of which those from place n on are zero
+--     IsPolynomial n degree p     canonical, with no variable above z_n, of at most this degree
+--     IsField n degree a b        n such polynomials and a factor
+--     ArePowers n powers          n powers from -30 to 30
+use Rattle.std.specs.Prelude.{◌≡◌, ℕ, ◌≤◌, ℤ, pos, negsuc, ◌≤ℤ◌, List, length, sum, slice_index_or}
+use Rattle.std.specs.List.{All}
+use Rattle.ibp_algebra.specs.FormalSum.{AllKeys, IsCanonical}
+use Rattle.ibp_algebra.specs.Exponents.{deg_rev_lex}
+use Rattle.ibp_algebra.specs.Laurent.{power_at}
+use Rattle.ibp_algebra.specs.Polynomial.{Polynomial}
+
+pub record HasVariables (n : ℕ) (m : List ℕ) : Type 0 where
+  pub nine : length m ≡ 9
+  pub none_beyond : (i : ℕ) → n ≤ i → slice_index_or m i 0 ≡ 0
+
+pub record IsPolynomial (n degree : ℕ) (p : Polynomial) : Type 0 where
+  pub canonical : IsCanonical deg_rev_lex p
+  pub variables : AllKeys (HasVariables n) p
+  pub degree_within : AllKeys (λ m. sum m ≤ degree) p
+
+pub record IsField (n degree : ℕ) (a : List Polynomial) (b : Polynomial) : Type 0 where
+  pub count : length a ≡ n
+  pub polynomials : All (IsPolynomial n degree) a
+  pub factor : IsPolynomial n degree b
+
+pub record ArePowers (n : ℕ) (powers : List ℤ) : Type 0 where
+  pub count : length powers ≡ n
+  pub low : (i : ℕ) → negsuc 29 ≤ℤ power_at powers i
+  pub high : (i : ℕ) → power_at powers i ≤ℤ pos 30

@@ -1,0 +1,22 @@
+//! Laws of the definitions.
+
+ghost use Rattle.std.specs.Prelude.{◌≡◌, ℕ, ℤ, List, Ok};
+ghost use Rattle.ibp_algebra.specs.Identity.{in_sector_of};
+ghost use Rattle.sector_lattice.specs.Sectors.{sector_of};
+ghost use Rattle.family_file.specs.Accepted.{DataWithin, MeetsNeed};
+ghost use Rattle.family_file.specs.Conditions.{in_sector};
+ghost use Rattle.family_file.specs.Family.{FamilyData, family_of};
+ghost use Rattle.family_file.specs.declared.need.Need.{Need};
+
+/// The places of a sector are those of the positive powers of each of its integrals.
+pub fn places_are_positive_powers()
+    ensures { (powers : List ℤ) (i : ℕ) → in_sector (sector_of powers) i ≡ in_sector_of powers i }
+{}
+
+/// The family of each accepted file is within the limits, and what is needed is there.
+pub fn accepted_files_keep_the_limits()
+    ensures limits { (need : Need) (bytes : List ℕ) (family : FamilyData)
+        → family_of need bytes ≡ Ok family → DataWithin family }
+    ensures needs { (need : Need) (bytes : List ℕ) (family : FamilyData)
+        → family_of need bytes ≡ Ok family → MeetsNeed need family }
+{}

@@ -1,0 +1,14 @@
+pub mod LaurentLaws
+pub mod IdentityLaws
+pub mod ShiftLaws
+pub mod Uniqueness
+pub mod NoRise
+pub mod Embedding
+pub mod Rows
+pub mod ShiftSteps
+pub mod Tangents
+pub mod Examples
+pub mod Powers
+pub mod Divisions
+pub mod Degrees
+pub mod Outcomes

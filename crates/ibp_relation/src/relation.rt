@@ -1,0 +1,90 @@
+ghost use Rattle.std.specs.Prelude.{◌≡◌, ◌≢◌, ℕ, ◌↔◌, length, All, IfOk, OnOk};
+ghost use Rattle.ibp_algebra.specs.FormalSum.{IsCanonical};
+ghost use Rattle.ibp_algebra.specs.Field.{MeetsConditions};
+ghost use Rattle.ibp_algebra.specs.Identity.{in_sector_of, IsIdentityRow};
+ghost use Rattle.sector_lattice.specs.Sectors.{integral_cmp};
+ghost use Rattle.sparse_rows.specs.Rows.{is_zero_integral};
+ghost use Rattle.family_file.specs.Shapes.{IsField, ArePowers};
+ghost use Rattle.ibp_relation.specs.Conditions.{IsDivided, IsFirstUndivided, IsTangent, NoneRises};
+ghost use Rattle.ibp_relation.specs.Shifts.{HasDegree};
+
+use crate::conditions::{first_undivided, is_tangent};
+use crate::shifts::identity_terms;
+use family_file::{Family, Field};
+use ibp_base::NoMemory;
+use sector_lattice::Integral;
+use sparse_poly::Poly;
+use sparse_rows::Row;
+use std::alloc::Global;
+
+/// Why a field has no identity at a seed.
+#[derive(Clone, Copy, Debug, PartialEq, Eq)]
+pub enum IdentityFault {
+    /// The variable z_i, counted from 1, has a positive power at the seed and does not divide a_i; no
+    /// lesser one is such.
+    NotDivisible(u8),
+    /// The field does not take the Baikov polynomial to a multiple of itself by its factor.
+    NotTangent,
+    NoMemory,
+}
+
+impl From<NoMemory> for IdentityFault {
+    ghost use Rattle.std.specs.Prelude.{◌≡◌};
+    ghost use Rattle.ibp_relation.specs.declared.relation.IdentityFault.{IdentityFault};
+
+    ghost from_gives = { λ _ e. e ≡ IdentityFault.NoMemory };
+
+    fn from(_: NoMemory) -> IdentityFault {
+        IdentityFault::NoMemory
+    }
+}
+
+/// The integration-by-parts identity of a field at a seed: the divergence of the field times the Baikov
+/// integrand of the seed, as a row of integrals whose sum is zero. Integrals of the family's zero sectors
+/// are left out.
+pub fn identity(
+    alloc: Global,
+    family: &Family,
+    field: &Field,
+    seed: &Integral,
+) -> Result<Row, IdentityFault>
+    requires field { IsField family.now.n 24 field.now.a field.now.b }
+    requires seed { ArePowers family.now.n seed.now }
+    ensures row { IfOk result (λ row. IsIdentityRow family.now.n family.now.gamma family.now.baikov field.now.a seed.now (is_zero_integral family.now.zero) row) }
+    ensures canonical { IfOk result (λ row. IsCanonical integral_cmp row) }
+    ensures meets { OnOk result (MeetsConditions family.now.baikov (in_sector_of seed.now) field.now.a field.now.b) }
+    ensures no_rise { OnOk result (NoneRises family.now.n family.now.gamma family.now.baikov field.now.a seed.now) }
+    ensures not_divisible { (i : ℕ) → result ≢ Err IdentityFault.NoMemory → (result ≡ Err (IdentityFault.NotDivisible i)) ↔ IsFirstUndivided seed.now field.now.a i }
+    ensures not_tangent { result ≢ Err IdentityFault.NoMemory
+        → (result ≡ Err IdentityFault.NotTangent) ↔ (IsDivided seed.now field.now.a × ¬ (IsTangent family.now.baikov field.now.a field.now.b)) }
+{
+    let a = field.a.as_slice();
+    if let Some(i) = first_undivided(a, seed) {
+        return Err(IdentityFault::NotDivisible(i));
+    }
+    if !is_tangent(alloc, &family.baikov, a, &field.b)? {
+        return Err(IdentityFault::NotTangent);
+    }
+    Ok(row_of(alloc, family, a, &field.b, seed)?)
+}
+
+// The row of the identity of a field that meets the two conditions.
+fn row_of(
+    alloc: Global,
+    family: &Family,
+    a: &[Poly],
+    b: &Poly,
+    seed: &Integral,
+) -> Result<Row, NoMemory>
+    requires fits { length a.now ≡ family.now.n }
+    requires seed { ArePowers family.now.n seed.now }
+    requires degrees { All (HasDegree 300) a.now }
+    requires degree { HasDegree 300 b.now }
+    requires meets { MeetsConditions family.now.baikov (in_sector_of seed.now) a.now b.now }
+    ensures row { IfOk result (λ row. IsIdentityRow family.now.n family.now.gamma family.now.baikov a.now seed.now (is_zero_integral family.now.zero) row) }
+    ensures canonical { IfOk result (λ row. IsCanonical integral_cmp row) }
+{
+    let terms = identity_terms(alloc, family.gamma, a, b, seed)?;
+    let row = Row::from_terms(alloc, &terms)?;
+    row.strike(alloc, family.zero.as_slice())
+}

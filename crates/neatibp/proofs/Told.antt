@@ -1,0 +1,43 @@
+-- What is told of the bytes that were read holds of the source's bytes.
+use Rattle.std.proofs.Common.{◌≡◌, ℕ, List, take, Option, Some, None, Result, Ok, Err, refl, sym, ap, subst, ◌∙◌}
+use Rattle.std.specs.Prelude.{IfSome, IsOkAnd}
+use Rattle.std.specs.Io.KnownBytes.{Keeps}
+use Rattle.std.proofs.lemmas.Option.{same_Some}
+use Rattle.family_file.proofs.Front.{family_of-take}
+use Rattle.family_file.specs.declared.fault.FileFault.{FileFault}
+use Rattle.family_file.specs.Family.{FamilyData, family_of}
+use Rattle.neatibp.specs.declared.words.Command.{Command}
+use Rattle.neatibp.specs.declared.words.Command.TheVariants as command
+use Rattle.neatibp.specs.declared.refusal.Refusal.{Refusal}
+use Rattle.neatibp.specs.declared.refusal.Refusal.TheVariants as refusal
+use Rattle.neatibp.specs.Causes.{need_of, Accepts, IsRefusal, Tells, status_of}
+use Rattle.neatibp.specs.Input.{TakesFront}
+use Rattle.neatibp.proofs.Probes.{divisible_again, tangent_again}
+
+pub told_of : (P : Command → Result FamilyData FileFault → Type 0) (found : Option Command) (asked : Command) (left now : Option (List ℕ)) (bytes : List ℕ) → found ≡ Some asked → TakesFront 1048577 left now bytes → P asked (family_of (need_of asked) bytes)
+    → (command : Command) → found ≡ Some command → IfSome left (λ input. P command (family_of (need_of command) input))
+told_of P found asked None now bytes is taken told command also = tt
+told_of P found asked (Some input) now bytes is taken told command also =
+    let same : asked ≡ command = same_Some asked command (sym is ∙ also) in
+    let file : family_of (need_of asked) bytes ≡ family_of (need_of asked) input = ap (family_of (need_of asked)) taken.0 ∙ family_of-take (need_of asked) input in
+    subst (λ (c : Command). P c (family_of (need_of c) input)) same (subst (P asked) file told)
+
+pub Keeps-same : (known : Option (List ℕ)) → Keeps known known
+Keeps-same None = tt
+Keeps-same (Some bytes) = refl
+
+pub told_refusal : (r : Refusal) (asked : Command) (given : Result FamilyData FileFault) (known : Option (List ℕ)) → IsRefusal asked given r → Tells asked given known known (status_of r)
+told_refusal refusal.NoMemory asked given known failed = Keeps-same known
+told_refusal (refusal.File fault) asked given known failed = (failed, Keeps-same known)
+told_refusal (refusal.NotDivisible i) asked given known failed = (failed, Keeps-same known)
+told_refusal refusal.NotTangent asked given known failed = (failed, Keeps-same known)
+
+-- only want of memory refuses a family that the command works on
+pub refused : (r : Refusal) (asked : Command) (given : Result FamilyData FileFault) → IsRefusal asked given r → IsOkAnd given (Accepts asked) → r ≡ refusal.NoMemory
+refused refusal.NoMemory asked given failed meets = refl
+refused (refusal.File fault) asked (Ok family) failed meets = absurd (cc)
+refused (refusal.File fault) asked (Err e) failed meets = absurd meets
+refused (refusal.NotDivisible i) asked (Err e) failed meets = absurd meets
+refused (refusal.NotDivisible i) command.Identity (Ok family) failed meets = absurd (divisible_again family i meets failed)
+refused refusal.NotTangent asked (Err e) failed meets = absurd meets
+refused refusal.NotTangent command.Identity (Ok family) failed meets = absurd (tangent_again family meets failed)

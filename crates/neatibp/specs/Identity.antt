@@ -1,0 +1,50 @@
+-- What `identity` writes of a family with a probe, and why it refuses one.
+--     MeetsProbe family              both conditions hold for the probe's field and the seed's sector
+--     IsProbeRow family row          the canonical row of the identity of the probe's field at its seed,
+--                                    with the integrals of zero sectors struck
+--     IsIdentityText family text     the line of this row
+--     IsNotDivisible family i        z_i is the first variable of the seed's sector that does not divide
+--                                    its polynomial of the probe's field
+--     IsNotTangent family            the first condition holds, and the second one does not
+use Rattle.std.specs.Prelude.{◌≡◌, ℕ, List, ◌++◌, codes, Some}
+use Rattle.ibp_algebra.specs.FormalSum.{IsCanonical}
+use Rattle.ibp_algebra.specs.Field.{MeetsConditions}
+use Rattle.ibp_algebra.specs.Identity.{IsIdentityRow, in_sector_of}
+use Rattle.sector_lattice.specs.Sectors.{integral_cmp}
+use Rattle.sparse_rows.specs.Rows.{IntegralSum, is_zero_integral}
+use Rattle.family_file.specs.Family.{FamilyData}
+use Rattle.family_file.specs.declared.parts.Probe.{Probe}
+use Rattle.ibp_relation.specs.Conditions.{IsDivided, IsFirstUndivided, IsTangent, NoneRises}
+use Rattle.system_text.specs.Texts.{row_text}
+
+pub record MeetsProbe (family : FamilyData) : Type 0 where
+  pub probe : Probe
+  pub given : family.probe ≡ Some probe
+  pub conditions : MeetsConditions family.baikov (in_sector_of probe.seed) probe.field.a probe.field.b
+
+pub record IsProbeRow (family : FamilyData) (row : IntegralSum) : Type 0 where
+  pub probe : Probe
+  pub given : family.probe ≡ Some probe
+  pub conditions : MeetsConditions family.baikov (in_sector_of probe.seed) probe.field.a probe.field.b
+  pub identity : IsIdentityRow family.n family.gamma family.baikov probe.field.a probe.seed (is_zero_integral family.zero) row
+  pub canonical : IsCanonical integral_cmp row
+  pub none_rises : NoneRises family.n family.gamma family.baikov probe.field.a probe.seed
+
+abbrev pub row_line : IntegralSum → List ℕ
+row_line row = row_text row ++ codes "\n"
+
+pub record IsIdentityText (family : FamilyData) (text : List ℕ) : Type 0 where
+  pub row : IntegralSum
+  pub is_row : IsProbeRow family row
+  pub line : text ≡ row_line row
+
+pub record IsNotDivisible (family : FamilyData) (i : ℕ) : Type 0 where
+  pub probe : Probe
+  pub given : family.probe ≡ Some probe
+  pub first : IsFirstUndivided probe.seed probe.field.a i
+
+pub record IsNotTangent (family : FamilyData) : Type 0 where
+  pub probe : Probe
+  pub given : family.probe ≡ Some probe
+  pub divided : IsDivided probe.seed probe.field.a
+  pub not_tangent : ¬ IsTangent family.baikov probe.field.a probe.field.b

@@ -1,0 +1,9 @@
+pub mod Input
+pub mod Output
+pub mod Program
+pub mod Words
+pub mod Refusals
+pub mod StatusText
+pub mod Identity
+pub mod Causes
+pub mod OneText

@@ -1,0 +1,12 @@
+-- A file determines the text that a command writes of it.
+use Rattle.std.specs.Prelude.{◌≡◌, ℕ, List, Ok}
+use Rattle.family_file.specs.Family.{FamilyData, family_of}
+use Rattle.neatibp.specs.Causes.{need_of, IsTextOf}
+use Rattle.neatibp.specs.declared.words.Command.{Command}
+
+abbrev pub OneText : Type 0
+OneText =
+    (asked : Command) (input : List ℕ) (family : FamilyData) (text other : List ℕ)
+    → family_of (need_of asked) input ≡ Ok family
+    → IsTextOf asked family text → IsTextOf asked family other
+    → text ≡ other

@@ -1,0 +1,85 @@
+//! The words of the command line.
+
+ghost use Rattle.std.specs.Prelude.{◌≡◌, map, string_bytes, option_map, IfOk};
+ghost use Rattle.clap.specs.Walk.{rows_of};
+ghost use Rattle.clap.specs.Matches.{found_of};
+ghost use Rattle.clap.specs.Simple.{app_of};
+ghost use Rattle.neatibp.specs.Program.{program, rows_found};
+ghost use Rattle.neatibp.specs.Words.{command_of_parts, command_of, Gives};
+
+use clap::error::ErrorKind;
+use clap::{Arg, ArgMatches};
+use std::alloc::{AllocError, Global};
+
+/// What the program is asked for.
+#[derive(Clone, Copy, Debug, PartialEq, Eq)]
+pub enum Command {
+    /// The row of the identity of the file's probe.
+    Identity,
+}
+
+/// Why the words are no command.
+#[derive(Clone, Copy, Debug, PartialEq, Eq)]
+pub enum WordsFault {
+    Usage,
+    NoMemory,
+}
+
+// The command line: a command, a number where the command has one, and the number of workers.
+fn program<'a>(alloc: Global) -> Result<clap::Command<'a>, AllocError>
+    ensures { IfOk result (λ c. app_of c ≡ program) }
+{
+    let command = Arg::new(alloc, "command").required(true);
+    let number = Arg::new(alloc, "number");
+    let workers = Arg::new(alloc, "workers").long("workers");
+    clap::Command::new(alloc, "neatibp")
+        .no_binary_name(true)
+        .disable_help_flag(true)
+        .disable_version_flag(true)
+        .arg(command)?
+        .arg(number)?
+        .arg(workers)
+}
+
+// The matches of the words.
+fn matches_of<'a>(alloc: Global, words: &'a [String]) -> Result<ArgMatches<'a>, WordsFault>
+    ensures { Gives (λ m. rows_of (found_of m)) result
+        (rows_found (map string_bytes words.entry.now)) }
+{
+    let program = match program(alloc) {
+        Ok(program) => program,
+        Err(AllocError) => return Err(WordsFault::NoMemory),
+    };
+    match program.try_get_matches_from(words) {
+        Ok(matches) => Ok(matches),
+        Err(error) if error.kind() == ErrorKind::OutOfMemory => Err(WordsFault::NoMemory),
+        Err(_) => Err(WordsFault::Usage),
+    }
+}
+
+fn command_of_parts(
+    command: Option<&str>,
+    number: Option<&str>,
+    workers: Option<&str>,
+) -> Option<Command>
+    ensures { result ≡ command_of_parts (option_map (λ s. s.now) command.entry) (option_map
+        (λ s. s.now) number.entry) (option_map (λ s. s.now) workers.entry) }
+{
+    match (command?, number, workers) {
+        ("identity", None, None) => Some(Command::Identity),
+        _ => None,
+    }
+}
+
+/// The command of these words, which have no name of a program in front.
+pub fn command_of(alloc: Global, words: &[String]) -> Result<Command, WordsFault>
+    ensures { Gives (λ c. c) result (command_of (map string_bytes words.now)) }
+{
+    let matches = matches_of(alloc, words)?;
+    command_of_parts(
+        matches.get_str("command"),
+        matches.get_str("number"),
+        matches.get_str("workers"),
+    )
+    .ok_or(WordsFault::Usage)
+}
