@@ -1,0 +1,3 @@
+pub mod Echelons
+pub mod KeptRows
+pub mod Laws

@@ -1,0 +1,134 @@
+ghost use Rattle.std.specs.Prelude.{◌≡◌, [], ◌++◌, IfOk, OnErr};
+ghost use Rattle.ibp_algebra.specs.FormalSum.{AllKeys, IsCanonical};
+ghost use Rattle.sector_lattice.specs.Sectors.{integral_cmp};
+ghost use Rattle.ibp_algebra.specs.Combination.{combination};
+ghost use Rattle.ibp_algebra.specs.Spans.{IsReducedForm};
+ghost use Rattle.sparse_rows.specs.Rows.{SameRow};
+ghost use Rattle.row_echelon.specs.Echelons.{row_numbered, IsNumber, InKeptSpan, AreIndependent, IsBelow, Inserts, number_cmp};
+
+use crate::elimination::{append, eliminate};
+use crate::inserted::Inserted;
+use crate::kept::Kept;
+use crate::substitution::substitute;
+use ibp_base::{List, NoMemory};
+use ibp_field::Residue;
+use indexmap::IndexMap;
+use sector_lattice::Integral;
+use sparse_rows::Row;
+use std::alloc::Global;
+use std::marker::Model;
+
+/// A reduced form, and its weights over the numbers of the kept rows.
+#[derive(Drop)]
+pub struct Reduced {
+    pub rest: Row,
+    pub weights: List<(u32, Residue)>,
+}
+
+/// Independent rows with numbers. Contracts see it as their list, in the order in which they were kept.
+#[derive(Drop)]
+pub struct Echelon {
+    alloc: Global,
+    kept: IndexMap<Integral, Kept>,
+}
+
+impl Model for Echelon {
+    ghost use Rattle.std.specs.Prelude.{List, [], ℕ, ℤ};
+
+    ghost Value = { List (ℕ × List (List ℤ × ℕ)) };
+
+    ghost use Rattle.row_echelon.specs.KeptRows.{originals, IsEchelon};
+
+    ghost view = { λ s. originals [] s.kept.entries };
+
+    ghost invariant = { λ s. IsEchelon s.kept.entries };
+}
+
+impl Echelon {
+    /// No rows.
+    pub fn empty(alloc: Global) -> Echelon
+        ensures { result ≡ [] }
+    {
+        Echelon {
+            alloc,
+            kept: IndexMap::new(alloc),
+        }
+    }
+
+    /// Keeps the row with this number, unless it is in the span of the kept rows.
+    pub fn insert(&mut self, row: &Row, number: u32) -> Result<Inserted, NoMemory>
+        requires { IsBelow self.old number }
+        ensures ok { IfOk result (Inserts self.old self.new row.now number) }
+        ensures err { OnErr result (self.new ≡ self.old) }
+    {
+        let left = eliminate(self.alloc, &self.kept, row)?;
+        match left.rest.lead() {
+            None => Ok(Inserted::Dependent),
+            Some(first) => {
+                let inverse = first.1.inverse().unwrap();
+                let entry = Kept {
+                    number,
+                    reduced: left.rest,
+                    steps: left.steps,
+                    inverse,
+                };
+                append(&mut self.kept, first.0, entry)?;
+                Ok(Inserted::Kept)
+            }
+        }
+    }
+
+    /// The reduced form of a row by the span of the kept rows. The row is this form plus the sum of the
+    /// weights times the kept rows, lowest number first.
+    pub fn reduce(&self, alloc: Global, row: &Row) -> Result<Reduced, NoMemory>
+        ensures rest { IfOk result (λ reduced. IsReducedForm integral_cmp (InKeptSpan self.now) row.now reduced.rest) }
+        ensures weights { IfOk result (λ reduced. SameRow row.now (reduced.rest ++ combination (row_numbered self.now) reduced.weights)) }
+        ensures numbers { IfOk result (λ reduced. AllKeys (IsNumber self.now) reduced.weights) }
+        ensures ascending { IfOk result (λ reduced. IsCanonical number_cmp reduced.weights) }
+        ensures canonical { IfOk result (λ reduced. IsCanonical integral_cmp reduced.rest) }
+        ensures independent { AreIndependent self.now }
+    {
+        let left = eliminate(alloc, &self.kept, row)?;
+        let weights = substitute(alloc, &self.kept, &left.steps)?;
+        Ok(Reduced {
+            rest: left.rest,
+            weights: List::from_vec(weights),
+        })
+    }
+}
+
+#[cfg(test)]
+mod tests {
+    use super::*;
+    use std::test::Fail;
+
+    fn row(alloc: Global, terms: &[(i16, u32)]) -> Result<Row, Fail> {
+        let mut found = Vec::new(alloc);
+        for (power, value) in terms {
+            let integral = Integral::new(&[*power]).ok_or("out of range")?;
+            found.push((integral, Residue::from_i64(i64::from(*value))))?;
+        }
+        Ok(Row::from_terms(alloc, &found)?)
+    }
+
+    #[test]
+    fn keeps_independent_rows_and_reduces(rt: HostRuntime) -> Result<(), Fail> {
+        let alloc = rt.alloc();
+        let first = row(alloc, &[(2, 2147483646), (1, 5)])?;
+        let second = row(alloc, &[(3, 2147483645), (2, 4)])?;
+        let third = row(alloc, &[(2, 2147483644), (1, 15)])?;
+        let mut echelon = Echelon::empty(alloc);
+        assert_eq!(rt; echelon.insert(&first, 1)?, Inserted::Kept);
+        assert_eq!(rt; echelon.insert(&second, 2)?, Inserted::Kept);
+        assert_eq!(rt; echelon.insert(&third, 3)?, Inserted::Dependent);
+        let reduced = echelon.reduce(alloc, &row(alloc, &[(3, 1)])?)?;
+        let one = Integral::new(&[1]).ok_or("out of range")?;
+        assert_eq!(rt; reduced.rest.terms().len(), 1);
+        assert_eq!(rt; reduced.rest.coefficient(&one), Residue::from_i64(10));
+        let weights = reduced.weights.as_slice();
+        assert_eq!(rt; weights.len(), 2);
+        assert_eq!(rt; weights[0], (1, Residue::from_i64(2147483645)));
+        assert_eq!(rt; weights[1], (2, Residue::from_i64(1073741823)));
+        Ok(())
+    }
+}
