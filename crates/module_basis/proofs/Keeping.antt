@@ -1,0 +1,230 @@
+-- From a basis to the reduced one, step by step: the vectors with low leads are put in descending order, and those
+-- stay whose leads no lead of a later one divides.
+use Rattle.std.proofs.Common.{◌≡◌, ◌≢◌, ℕ, zero, suc, ◌+◌, ◌<◌, ◌≤◌, Bool, true, false, if◌then◌else◌, Option, Some, None, ◌⊎◌, inl, inr, ⊎_elim, sum, length, get_or, take, drop, List, [], ◌∷◌, ◌++◌, sym, refl, ap, subst, ◌∙◌, add-one, append_assoc, append-nil, arith}
+use Rattle.std.specs.List.{All, AllByRecursion, Contains}
+use Rattle.std.specs.Ordering.{is_lt}
+use Rattle.std.specs.declared.cmp.Ordering.{Ordering}
+use Rattle.std.specs.declared.cmp.Ordering.TheVariants.{Less, Equal, Greater}
+use Rattle.std.proofs.Math.Seq.{drop-cons}
+use Rattle.std.proofs.Math.ListN.{drop_of_length-le}
+use Rattle.std.proofs.lemmas.Bool.{cases_lt}
+use Rattle.std.proofs.lemmas.List.{get_or_default}
+use Rattle.std.proofs.lemmas.List.Elements.{All-contains, All-contains_itself, All-weaker, All-from_recursion, Contains-get_or, Contains-append_right}
+use Rattle.ibp_algebra.specs.FormalSum.{AllKeys, IsCanonical}
+use Rattle.ibp_algebra.proofs.Combinations.{AllKeys-both}
+use Rattle.mono_order.specs.Term.{Term}
+use Rattle.mono_order.specs.TermOrder.{IsTermOrder}
+use Rattle.module_vec.specs.ModuleVector.{ModuleVector, lead, IsMonic, IsMonicVector}
+use Rattle.module_vec.specs.Division.{Remainder, DividesTo, first_divisor}
+use Rattle.module_basis.specs.GroebnerBasis.{low_elements, IsTailReduced}
+use Rattle.module_basis.specs.Reducing.{descending_place, insert_descending, Descends, IsSortedLow, IsKept}
+use Rattle.module_basis.proofs.ReducedBases.{Contains-low, from_low_elements, low_from_lead, reduced_monic, IsTailReduced-divided}
+use Rattle.module_basis.proofs.ReducedBasisExists.{Every-insert, Contains-insert, Descends-insert, length-insert, kept_dropped, kept_added}
+
+drop_at : {X : Type 0} (list : List X) (i : ℕ) (x : X) → i < length list → x ≡ get_or list i x → drop i list ≡ x ∷ drop (i + 1) list
+drop_at list i x within is = drop-cons list i x within ∙ (λ j. sym is j ∷ drop (sym (add-one i) j) list)
+
+-- ---- the place of a term in a descending list
+
+pub record IsPlaced (order : Term → Term → Ordering) (t : Term) (list : List ModuleVector) (i : ℕ) : Type 0 where
+  pub within : i ≤ length list
+  pub rest : descending_place order t (drop i list) + i ≡ descending_place order t list
+
+pub IsPlaced-start : (order : Term → Term → Ordering) (t : Term) (list : List ModuleVector) → IsPlaced order t list 0
+IsPlaced-start order t list = record { within = omega arith; rest = omega arith }
+
+place_here : (r : Ordering) (n : ℕ) → r ≢ Less → (if is_lt r then suc n else 0) ≡ 0
+place_here Less n h = absurd (h refl)
+place_here Equal n h = refl
+place_here Greater n h = refl
+
+pub IsPlaced-here : (order : Term → Term → Ordering) (t : Term) (list : List ModuleVector) (i : ℕ) (g : ModuleVector) → i < length list → g ≡ get_or list i g → order t (lead g) ≢ Less
+    → IsPlaced order t list i → i ≡ descending_place order t list
+IsPlaced-here order t list i g within is above h =
+    let at : descending_place order t (drop i list) ≡ 0 = ap (descending_place order t) (drop_at list i g within is) ∙ place_here (order t (lead g)) (descending_place order t (drop (i + 1) list)) above in
+    omega (arith, at, h.rest)
+
+pub IsPlaced-more : (order : Term → Term → Ordering) (t : Term) (list : List ModuleVector) (i : ℕ) (g : ModuleVector) → i < length list → g ≡ get_or list i g → order t (lead g) ≡ Less
+    → IsPlaced order t list i → IsPlaced order t list (i + 1)
+IsPlaced-more order t list i g within is below h =
+    let at : descending_place order t (drop i list) ≡ suc (descending_place order t (drop (i + 1) list)) =
+    ap (descending_place order t) (drop_at list i g within is) ∙ ap (λ r. if is_lt r then suc (descending_place order t (drop (i + 1) list)) else 0) below
+    in
+    record { within = omega (arith, within); rest = omega (arith, at, h.rest) }
+
+pub IsPlaced-end : (order : Term → Term → Ordering) (t : Term) (list : List ModuleVector) (i : ℕ) → length list ≤ i → IsPlaced order t list i → length list ≡ descending_place order t list
+IsPlaced-end order t list i end h =
+    let at : descending_place order t (drop i list) ≡ 0 = ap (descending_place order t) (drop_of_length-le list end) in
+    omega (arith, at, h.rest, h.within)
+
+-- ---- a vector put at its place
+
+insert_if : (r : Ordering) (g x : ModuleVector) (list after : List ModuleVector) (n : ℕ) → take n list ++ g ∷ drop n list ≡ after
+    → take (if is_lt r then suc n else 0) (x ∷ list) ++ g ∷ drop (if is_lt r then suc n else 0) (x ∷ list) ≡ (if is_lt r then (x ∷ after) else (g ∷ x ∷ list))
+insert_if Less g x list after n e = ap (λ (l : List ModuleVector). x ∷ l) e
+insert_if Equal g x list after n e = refl
+insert_if Greater g x list after n e = refl
+
+pub insert_descending-place : (order : Term → Term → Ordering) (g : ModuleVector) (list : List ModuleVector)
+    → take (descending_place order (lead g) list) list ++ g ∷ drop (descending_place order (lead g) list) list ≡ insert_descending order g list
+unfolding insert_descending
+insert_descending-place order g [] = refl
+insert_descending-place order g (x ∷ list) = insert_if (order (lead g) (lead x)) g x list (insert_descending order g list) (descending_place order (lead g) list) (insert_descending-place order g list)
+
+-- ---- the loops
+
+-- the vectors with low leads in front are in the list
+pub record IsSorting (order : Term → Term → Ordering) (high : ℕ → Bool) (elements : List ModuleVector) (i : ℕ) (sorted : List ModuleVector) : Type 0 where
+  pub descends : Descends order sorted
+  pub within : AllByRecursion (λ x. Contains elements x × (high (lead x).0 ≡ false)) sorted
+  pub all : (k : ℕ) (d : ModuleVector) → k < i → high (lead (get_or elements k d)).0 ≡ false → Contains sorted (get_or elements k d)
+  pub short : length sorted ≤ i
+
+pub IsSorting-start : (order : Term → Term → Ordering) (high : ℕ → Bool) (elements : List ModuleVector) → IsSorting order high elements 0 []
+IsSorting-start order high elements = record { descends = tt; within = tt; all = λ k d below low. absurd (omega (arith, below)); short = omega arith }
+
+not_both : (b : Bool) → b ≡ true → b ≡ false → ⊥
+not_both b e f = cc
+
+module _ {variables : ℕ} {order : Term → Term → Ordering} {high : ℕ → Bool} {height : Term → ℕ} {bound : ℕ}
+    (laws : IsTermOrder variables order high height bound) where
+  pub IsSorting-high : (elements : List ModuleVector) (i : ℕ) (g : ModuleVector) (sorted : List ModuleVector) → i < length elements → g ≡ get_or elements i g → high (lead g).0 ≡ true
+      → IsSorting order high elements i sorted → IsSorting order high elements (i + 1) sorted
+  IsSorting-high elements i g sorted within is test h =
+      record {
+        descends = h.descends;
+        within = h.within;
+        all = λ k d below low.
+            ⊎_elim (λ (old : k < i). h.all k d old low)
+            (λ (last : i ≤ k).
+            let same : k ≡ i = omega (arith, below) in
+            let value : get_or elements k d ≡ g = ap (λ n. get_or elements n d) same ∙ (get_or_default elements i d g within ∙ sym is) in
+            absurd (not_both (high (lead g).0) test (ap (λ (x : ModuleVector). high (lead x).0) (sym value) ∙ low)))
+            (cases_lt k i);
+        short = omega (arith, h.short);
+      }
+
+  pub IsSorting-low : (elements : List ModuleVector) (i : ℕ) (g : ModuleVector) (sorted : List ModuleVector) → i < length elements → g ≡ get_or elements i g → high (lead g).0 ≡ false
+      → IsSorting order high elements i sorted → IsSorting order high elements (i + 1) (insert_descending order g sorted)
+  IsSorting-low elements i g sorted within is low h =
+      record {
+        descends = Descends-insert laws g sorted h.descends;
+        within = Every-insert (λ x. Contains elements x × (high (lead x).0 ≡ false)) order g sorted ((i, within, sym is), low) h.within;
+        all = λ k d below test.
+            ⊎_elim (λ (old : k < i). Contains-insert order g sorted (get_or elements k d) (inr (h.all k d old test)))
+            (λ (last : i ≤ k).
+            let same : k ≡ i = omega (arith, below) in
+            let value : get_or elements k d ≡ g = ap (λ n. get_or elements n d) same ∙ (get_or_default elements i d g within ∙ sym is) in
+            Contains-insert order g sorted (get_or elements k d) (inl (sym value)))
+            (cases_lt k i);
+        short = omega (arith, h.short, length-insert laws g sorted);
+      }
+
+  pub IsSorting-end : (elements : List ModuleVector) (i : ℕ) (sorted : List ModuleVector) → i ≤ length elements → length elements ≤ i → IsSorting order high elements i sorted
+      → IsSortedLow order high elements sorted
+  IsSorting-end elements i sorted up end h =
+      record {
+        descends = h.descends;
+        within = λ x c.
+            let k = All-contains (λ y. Contains elements y × (high (lead y).0 ≡ false)) sorted x (All-from_recursion (λ y. Contains elements y × (high (lead y).0 ≡ false)) sorted h.within) c in
+            Contains-low high elements x k.0 k.1;
+        all = λ x c.
+            let k = from_low_elements high elements x c in
+            subst (Contains sorted) k.0.2 (h.all k.0.0 x (omega (arith, k.0.1, end)) (ap (λ (y : ModuleVector). high (lead y).0) k.0.2 ∙ k.1));
+        short = omega (arith, h.short, up);
+      }
+
+  -- what stays of the vectors that were taken off the end
+  pub record IsKeeping (whole sorted kept : List ModuleVector) : Type 0 where
+    pub done : List ModuleVector
+    pub parts : whole ≡ sorted ++ done
+    pub stays : IsKept order done kept
+
+  pub IsKeeping-start : (whole : List ModuleVector) → IsKeeping whole whole []
+  IsKeeping-start whole = record { done = []; parts = sym (append-nil whole); stays = none }
+    where
+      none : IsKept order [] []
+      none = record {
+        within = λ x c. c;
+        divided = λ x c. absurd (omega (arith, c.1));
+        ascends = λ i below j less. absurd (omega (arith, below));
+        is_minimal = λ i j first second apart. absurd (omega (arith, first));
+        short = omega arith;
+      }
+
+  Descends-later : (front back : List ModuleVector) → Descends order (front ++ back) → Descends order back
+  Descends-later [] back h = h
+  Descends-later (x ∷ front) back h = Descends-later front back h.1
+
+  shifted : (whole sorted rest : List ModuleVector) (g : ModuleVector) (done : List ModuleVector) → whole ≡ sorted ++ done → sorted ≡ rest ++ g ∷ [] → whole ≡ rest ++ g ∷ done
+  shifted whole sorted rest g done parts last = parts ∙ (ap (λ (l : List ModuleVector). l ++ done) last ∙ append_assoc rest (g ∷ []) done)
+
+  pub IsKeeping-dropped : (whole sorted rest : List ModuleVector) (g : ModuleVector) (kept : List ModuleVector) (h : ModuleVector) → sorted ≡ rest ++ g ∷ [] → first_divisor kept (lead g) ≡ Some h
+      → IsKeeping whole sorted kept → IsKeeping whole rest kept
+  IsKeeping-dropped whole sorted rest g kept h last found k =
+      record { done = g ∷ k.done; parts = shifted whole sorted rest g k.done k.parts last; stays = kept_dropped laws g k.done kept k.stays h found }
+
+  pub IsKeeping-added : (whole sorted rest : List ModuleVector) (g : ModuleVector) (kept : List ModuleVector) → All (IsMonicVector order variables) whole → Descends order whole
+      → sorted ≡ rest ++ g ∷ [] → first_divisor kept (lead g) ≡ None → IsKeeping whole sorted kept → IsKeeping whole rest (kept ++ g ∷ [])
+  IsKeeping-added whole sorted rest g kept monic descends last none k =
+      let parts = shifted whole sorted rest g k.done k.parts last in
+      let down = Descends-later rest (g ∷ k.done) (subst (Descends order) parts descends) in
+      record {
+        done = g ∷ k.done;
+        parts = parts;
+        stays = kept_added laws g k.done kept k.stays
+            (λ x c. All-contains (IsMonicVector order variables) whole x monic (subst (λ (l : List ModuleVector). Contains l x) (sym parts) (Contains-append_right rest (g ∷ k.done) x c)))
+            down.0 none;
+      }
+
+  pub IsKeeping-end : (whole sorted kept : List ModuleVector) → sorted ≡ [] → IsKeeping whole sorted kept → IsKept order whole kept
+  IsKeeping-end whole sorted kept none k = subst (λ (l : List ModuleVector). IsKept order l kept) (sym (k.parts ∙ ap (λ (l : List ModuleVector). l ++ k.done) none)) k.stays
+
+  -- a vector that is taken off is one of the list, and so are those that stay
+  pub IsKeeping-monic : (whole sorted rest : List ModuleVector) (g : ModuleVector) (kept : List ModuleVector) → All (IsMonicVector order variables) whole → sorted ≡ rest ++ g ∷ []
+      → IsKeeping whole sorted kept → IsMonicVector order variables g
+  IsKeeping-monic whole sorted rest g kept monic last k =
+      let parts = shifted whole sorted rest g k.done k.parts last in
+      All-contains (IsMonicVector order variables) whole g monic
+      (subst (λ (l : List ModuleVector). Contains l g) (sym parts) (Contains-append_right rest (g ∷ k.done) g (0, omega arith, refl)))
+
+  pub IsKeeping-kept_monic : (whole sorted kept : List ModuleVector) → All (IsMonicVector order variables) whole → IsKeeping whole sorted kept → All IsMonic kept
+  IsKeeping-kept_monic whole sorted kept monic k =
+      All-weaker (Contains kept) IsMonic
+      (λ x c. (All-contains (IsMonicVector order variables) whole x monic
+      (subst (λ (l : List ModuleVector). Contains l x) (sym k.parts) (Contains-append_right sorted k.done x (k.stays.within x c)))).monic)
+      kept (All-contains_itself kept)
+
+  -- ---- tails
+
+  pub tail_low : (limit : ℕ) (v : ModuleVector) (first : Term × ℕ) (tail : ModuleVector) → v ≡ first ∷ tail → IsCanonical order v → high (lead v).0 ≡ false
+      → AllKeys (λ t. sum t.1 ≤ limit) v → AllKeys (λ t. (high t.0 ≡ false) × (sum t.1 ≤ limit)) tail
+  tail_low limit v first tail is canonical low bounded =
+      (subst (AllKeys (λ t. (high t.0 ≡ false) × (sum t.1 ≤ limit))) is (AllKeys-both (λ t. high t.0 ≡ false) (λ t. sum t.1 ≤ limit) v (low_from_lead laws v canonical low) bounded)).1
+
+  pub tail_reduced_to : (list : List ModuleVector) → All (IsMonicVector order variables) list → (limit : ℕ) (v : ModuleVector) (first : Term × ℕ) (tail rest : ModuleVector) → v ≡ first ∷ tail
+      → IsMonicVector order variables v → DividesTo order limit list tail (Remainder rest) → IsTailReduced order variables list v (first ∷ rest) × IsCanonical order (first ∷ rest)
+  tail_reduced_to list monic limit v first tail rest is is_monic divided =
+      let m = subst (IsMonicVector order variables) is is_monic in
+      let reduced = IsTailReduced-divided laws list monic limit first tail rest m.canonical m.terms divided in
+      (subst (λ (w : ModuleVector). IsTailReduced order variables list w (first ∷ rest)) (sym is) reduced, (reduced_monic laws list (first ∷ tail) (first ∷ rest) m reduced).canonical)
+
+  -- the vectors that stay are monic, with low leads
+  pub kept_vectors : (elements sorted kept : List ModuleVector) → All (IsMonicVector order variables) elements → IsSortedLow order high elements sorted → IsKept order sorted kept
+      → All (IsMonicVector order variables) kept × All (λ g. high (lead g).0 ≡ false) kept
+  kept_vectors elements sorted kept monic s k = (
+    All-weaker (Contains kept) (IsMonicVector order variables)
+        (λ x c. All-contains (IsMonicVector order variables) elements x monic (from_low_elements high elements x (s.within x (k.within x c))).0) kept (All-contains_itself kept),
+    All-weaker (Contains kept) (λ g. high (lead g).0 ≡ false) (λ x c. (from_low_elements high elements x (s.within x (k.within x c))).1) kept (All-contains_itself kept),
+  )
+
+  pub sorted_vectors : (elements sorted : List ModuleVector) → All (IsMonicVector order variables) elements → IsSortedLow order high elements sorted → All (IsMonicVector order variables) sorted
+  sorted_vectors elements sorted monic s =
+      All-weaker (Contains sorted) (IsMonicVector order variables) (λ x c. All-contains (IsMonicVector order variables) elements x monic (from_low_elements high elements x (s.within x c)).0) sorted (All-contains_itself sorted)
+
+some_divisor : (o : Option ModuleVector) → (o ≡ None → ⊥) → (h : ModuleVector) × (o ≡ Some h)
+some_divisor None apart = absurd (apart refl)
+some_divisor (Some h) apart = (h, refl)
+
+pub divisor_found : (list : List ModuleVector) (t : Term) → (first_divisor list t ≡ None → ⊥) → (h : ModuleVector) × (first_divisor list t ≡ Some h)
+divisor_found list t apart = some_divisor (first_divisor list t) apart

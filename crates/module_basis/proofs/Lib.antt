@@ -1,0 +1,15 @@
+pub mod Buchberger
+pub mod SVectors
+pub mod RunLaws
+pub mod ReducedBases
+pub mod UniqueBasis
+pub mod RunEnds
+pub mod OrderChange
+pub mod ReducedBasisExists
+pub mod RunCounts
+pub mod WorkedRows
+pub mod RunSteps
+pub mod Forming
+pub mod Opening
+pub mod Keeping
+pub mod Stepping

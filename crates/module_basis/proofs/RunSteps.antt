@@ -1,0 +1,121 @@
+-- The steps of a run, for a loop over its state.
+use Rattle.std.proofs.Common.{◌≡◌, ◌≢◌, ℕ, suc, ◌+◌, ◌-◌, ◌≤◌, true, false, Some, None, length, List, [], ◌∷◌, refl, ap, subst, ◌∙◌, arith}
+use Rattle.std.specs.declared.cmp.Ordering.{Ordering}
+use Rattle.mono_order.specs.Term.{Term}
+use Rattle.module_vec.specs.ModuleVector.{ModuleVector}
+use Rattle.module_vec.specs.Division.{Division, Remainder, DividesTo, monic_of, s_vector}
+use Rattle.pair_queue.specs.declared.queue.Pair.{Pair}
+use Rattle.module_basis.specs.PlainRun.{RunState, RunEnd, Done, PairsSpent, DegreeOver, Step, Next, Over, step_to, with_element, with_remainder, element, is_pair_over, take_pair, without_pair, TakesFirst, after_step, run_pairs, run_from, opening, RunsFrom, RunsTo}
+use Rattle.module_basis.proofs.RunEnds.{take_pair-more, run_pairs-more}
+use Rattle.module_basis.proofs.RunCounts.{take_pair-counts, opening-counts}
+
+module _ (order : Term → Term → Ordering) (limit : ℕ) where
+  -- the opening
+  pub RunsTo-over : (generators : List ModuleVector) (budget : ℕ) → opening order limit generators ≡ None → RunsTo order limit generators budget DegreeOver
+  RunsTo-over generators budget e = record { steps = 0; ends = ap (run_from order limit 0 budget) e }
+
+  pub RunsTo-opened : (generators : List ModuleVector) (budget : ℕ) (state : RunState) → opening order limit generators ≡ Some state → (end : RunEnd)
+      → RunsFrom order limit budget state end → RunsTo order limit generators budget end
+  RunsTo-opened generators budget state e end h = record { steps = h.steps; ends = ap (run_from order limit h.steps budget) e ∙ h.ends }
+
+  -- no pair is left
+  pub RunsFrom-done : (budget : ℕ) (state : RunState) → state.pairs ≡ [] → RunsFrom order limit budget state (Done state.elements state.taken)
+  RunsFrom-done budget state e = record { steps = 0; ends = ap (λ pairs. run_pairs order limit 0 budget pairs state) e }
+
+  -- a pair is left, and the budget is spent
+  pub RunsFrom-spent : (state : RunState) (pair : Pair) (others : List Pair) → state.pairs ≡ pair ∷ others → RunsFrom order limit 0 state PairsSpent
+  RunsFrom-spent state pair others e = record { steps = 0; ends = ap (λ pairs. run_pairs order limit 0 0 pairs state) e }
+
+  pair_steps : (state : RunState) (pair : Pair) (others : List Pair) (division : Division)
+      → is_pair_over limit (element state pair.first) (element state pair.second) pair.lcm ≡ false
+      → (h : DividesTo order limit state.elements (s_vector order (element state pair.first) (element state pair.second)) division)
+      → take_pair order limit h.steps pair (without_pair others state) ≡ with_remainder order limit (without_pair others state) (Some division)
+  pair_steps state pair others division within h = let e = h.ends in rw (within, e)
+
+  -- a pair is taken
+  pub TakesFirst-over : (state : RunState) (pair : Pair) (others : List Pair) → state.pairs ≡ pair ∷ others
+      → is_pair_over limit (element state pair.first) (element state pair.second) pair.lcm ≡ true → TakesFirst order limit state Over
+  TakesFirst-over state pair others left over = record { steps = 0; pair = pair; others = others; left = left; takes = rw over }
+
+  pub TakesFirst-divided : (state : RunState) (pair : Pair) (others : List Pair) → state.pairs ≡ pair ∷ others
+      → is_pair_over limit (element state pair.first) (element state pair.second) pair.lcm ≡ false
+      → (division : Division) → DividesTo order limit state.elements (s_vector order (element state pair.first) (element state pair.second)) division
+      → (step : Step) → with_remainder order limit (without_pair others state) (Some division) ≡ Some step → TakesFirst order limit state step
+  TakesFirst-divided state pair others left within division h step e =
+      record { steps = h.steps; pair = pair; others = others; left = left; takes = pair_steps state pair others division within h ∙ e }
+
+  pub with_remainder-not_zero : (state : RunState) (r : ModuleVector) → r ≢ [] → with_remainder order limit state (Some (Remainder r)) ≡ Some (step_to (with_element order limit state (monic_of order r)))
+  with_remainder-not_zero state [] h = absurd (h refl)
+  with_remainder-not_zero state (t ∷ r) h = refl
+
+  -- and the run ends or goes on
+  pub RunsFrom-stopped : (budget : ℕ) (state : RunState) → TakesFirst order limit state Over → RunsFrom order limit (suc budget) state DegreeOver
+  RunsFrom-stopped budget state h =
+      record {
+        steps = h.steps;
+        ends = ap (λ pairs. run_pairs order limit h.steps (suc budget) pairs state) h.left
+            ∙ ap (after_step (λ next. run_pairs order limit h.steps budget next.pairs next)) h.takes;
+      }
+
+  pub RunsFrom-next : (budget : ℕ) (state next : RunState) → TakesFirst order limit state (Next next) → (end : RunEnd) → RunsFrom order limit budget next end
+      → RunsFrom order limit (suc budget) state end
+  RunsFrom-next budget state next h end rest =
+      let steps = h.steps + rest.steps in
+      let taken = take_pair-more order limit h.steps steps (omega arith) h.pair (without_pair h.others state) (Next next) h.takes in
+      let later = run_pairs-more order limit rest.steps steps (omega arith) budget next.pairs next end rest.ends in
+      record {
+        steps = steps;
+        ends = ap (λ pairs. run_pairs order limit steps (suc budget) pairs state) h.left
+            ∙ (ap (after_step (λ n. run_pairs order limit steps budget n.pairs n)) taken ∙ later);
+      }
+
+  pub TakesFirst-counts : (state next : RunState) → TakesFirst order limit state (Next next)
+      → (length next.elements ≤ length state.elements + 1) × (next.taken ≡ state.taken + 1)
+  TakesFirst-counts state next h = take_pair-counts order limit h.steps h.pair (without_pair h.others state) next h.takes
+
+  -- What the loop keeps: how the run goes on from its state tells how the whole run ends.
+  pub record IsUnderWay (generators : List ModuleVector) (budget : ℕ) (state : RunState) : Type 0 where
+    pub taken : state.taken ≤ budget
+    pub few : length state.elements ≤ length generators + state.taken
+    pub ends : (end : RunEnd) → RunsFrom order limit (budget - state.taken) state end → RunsTo order limit generators budget end
+
+  pub IsUnderWay-opened : (generators : List ModuleVector) (budget : ℕ) (state : RunState) → opening order limit generators ≡ Some state → IsUnderWay generators budget state
+  IsUnderWay-opened generators budget state e =
+      let counts = opening-counts order limit generators state e in
+      let whole : budget - state.taken ≡ budget = omega (arith, counts.1) in
+      record {
+        taken = omega (arith, counts.1);
+        few = omega (arith, counts.0);
+        ends = λ end h. RunsTo-opened generators budget state e end (subst (λ b. RunsFrom order limit b state end) whole h);
+      }
+
+  pub IsUnderWay-next : (generators : List ModuleVector) (budget : ℕ) (state next : RunState) → IsUnderWay generators budget state → state.taken ≢ budget
+      → TakesFirst order limit state (Next next) → IsUnderWay generators budget next
+  IsUnderWay-next generators budget state next u apart h =
+      let counts = TakesFirst-counts state next h in
+      let one_less : suc (budget - next.taken) ≡ budget - state.taken = omega (arith, counts.1, u.taken, apart) in
+      record {
+        taken = omega (arith, counts.1, u.taken, apart);
+        few = omega (arith, counts.0, counts.1, u.few);
+        ends = λ end k. u.ends end (subst (λ b. RunsFrom order limit b state end) one_less (RunsFrom-next (budget - next.taken) state next h end k));
+      }
+
+  pub IsUnderWay-stopped : (generators : List ModuleVector) (budget : ℕ) (state : RunState) → IsUnderWay generators budget state → state.taken ≢ budget
+      → TakesFirst order limit state Over → RunsTo order limit generators budget DegreeOver
+  IsUnderWay-stopped generators budget state u apart h =
+      let one_less : suc (budget - (state.taken + 1)) ≡ budget - state.taken = omega (arith, u.taken, apart) in
+      u.ends DegreeOver (subst (λ b. RunsFrom order limit b state DegreeOver) one_less (RunsFrom-stopped (budget - (state.taken + 1)) state h))
+
+  pub IsUnderWay-spent : (generators : List ModuleVector) (budget : ℕ) (state : RunState) → IsUnderWay generators budget state → state.taken ≡ budget → state.pairs ≢ []
+      → RunsTo order limit generators budget PairsSpent
+  IsUnderWay-spent generators budget state u same left =
+      let none : 0 ≡ budget - state.taken = omega (arith, same) in
+      u.ends PairsSpent (subst (λ b. RunsFrom order limit b state PairsSpent) none (spent_at state state.pairs refl left))
+    where
+      spent_at : (state : RunState) (pairs : List Pair) → state.pairs ≡ pairs → pairs ≢ [] → RunsFrom order limit 0 state PairsSpent
+      spent_at state [] e h = absurd (h refl)
+      spent_at state (pair ∷ others) e h = RunsFrom-spent state pair others e
+
+  pub IsUnderWay-done : (generators : List ModuleVector) (budget : ℕ) (state : RunState) → IsUnderWay generators budget state → state.pairs ≡ []
+      → RunsTo order limit generators budget (Done state.elements state.taken)
+  IsUnderWay-done generators budget state u none = u.ends (Done state.elements state.taken) (RunsFrom-done (budget - state.taken) state none)

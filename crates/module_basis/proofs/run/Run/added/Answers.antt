@@ -1,0 +1,37 @@
+use Rattle.std.proofs.Common.{◌≡◌, ◌+◌, ◌++◌, ◌∷◌, [], List, length, sym, subst, ap, ◌∙◌}
+use Rattle.mono_order.specs.declared.limits.TheConstants.{VARIABLES}
+use Rattle.pair_queue.specs.declared.queue.Pair.{Pair}
+use Rattle.pair_queue.specs.Pairs.{insert_pairs}
+use Rattle.module_vec.specs.ModuleVector.{ModuleVector, lead, IsMonicVector}
+use Rattle.module_basis.specs.PlainRun.{run_state, AreNewPairs, pairs_with, IsSoundState}
+use Rattle.module_basis.proofs.Forming.{AreNewPairs-formed, IsSoundState-added}
+use Rattle.module_basis.proofs.run.Run.added.Goals as goal
+
+pub push_all-requires : goal.push_all-requires
+push_all-requires g c =
+    let order = g.O.TermOrder.order in
+    let elements : c.deref.result.now ≡ c.self.inside.elements.items = cc in
+    let formed : c.deref-2.result.now ≡ c.in_ok-formed.formed.items = cc in
+    let pairs : c.deref-2.result.now ≡ pairs_with (length c.self.inside.elements.items + 1) (lead c.args.element) 1 c.self.inside.elements.items =
+    formed ∙ (c.in_ok-formed.ensures.formed ∙ (λ i. pairs_with (length (elements i) + 1) (c.lead_of.ensures.lead i) 1 (elements i)))
+    in
+    subst (λ (l : List Pair). AreNewPairs order l c.self.inside.pairs) (sym pairs)
+    (AreNewPairs-formed order VARIABLES (run_state c.self.inside.elements.items c.self.inside.pairs c.self.inside.taken) c.args.element c.self.invariant)
+
+pub invariant_of-result : goal.invariant_of-result
+invariant_of-result g c =
+    let order = g.O.TermOrder.order in
+    let elements : c.deref.result.now ≡ c.self.inside.elements.items = cc in
+    let formed : c.deref-2.result.now ≡ c.in_ok-formed.formed.items = cc in
+    let pairs : c.deref-2.result.now ≡ pairs_with (length c.self.inside.elements.items + 1) (lead c.args.element) 1 c.self.inside.elements.items =
+    formed ∙ (c.in_ok-formed.ensures.formed ∙ (λ i. pairs_with (length (elements i) + 1) (c.lead_of.ensures.lead i) 1 (elements i)))
+    in
+    let kept = c.lead_of.ensures.kept in
+    let monic : IsMonicVector order VARIABLES c.args.element = record { canonical = kept.canonical; terms = kept.terms; monic = c.requires.monic } in
+    let queue : c.push_all.new.queue ≡ insert_pairs order (pairs_with (length c.self.inside.elements.items + 1) (lead c.args.element) 1 c.self.inside.elements.items) c.self.inside.pairs =
+    c.in_ok-push_all.ensures ∙ ap (λ (l : List Pair). insert_pairs order l c.self.inside.pairs) pairs
+    in
+    let items : c.push.new.self.items ≡ c.self.inside.elements.items ++ c.args.element ∷ [] = c.in_ok-push.ensures.items in
+    let sound = IsSoundState-added order VARIABLES (run_state c.self.inside.elements.items c.self.inside.pairs c.self.inside.taken) c.args.element c.self.inside.taken c.self.invariant monic in
+    subst (λ (l : List ModuleVector). IsSoundState order VARIABLES (run_state l c.push_all.new.queue c.self.inside.taken)) (sym items)
+    (subst (λ (l : List Pair). IsSoundState order VARIABLES (run_state (c.self.inside.elements.items ++ c.args.element ∷ []) l c.self.inside.taken)) (sym queue) sound)

@@ -1,0 +1,3 @@
+pub mod GroebnerBasis
+pub mod PlainRun
+pub mod Reducing

@@ -1,0 +1,43 @@
+-- From a basis to the reduced one.
+--     insert_descending, Descends    a vector is put at its place in a list that descends by lead
+--     IsSortedLow                    the vectors with low leads, in descending order
+--     IsKept                         what stays of a list: no lead divides another one, and each lead of the list is divisible
+use Rattle.std.specs.Prelude.{◌≡◌, ◌≢◌, ℕ, suc, ◌≤◌, Bool, false, if◌then◌else◌, sum, length, List, [], ◌∷◌}
+use Rattle.std.specs.List.{AllByRecursion, Contains}
+use Rattle.std.specs.Ordering.{is_lt}
+use Rattle.std.specs.declared.cmp.Ordering.{Ordering}
+use Rattle.std.specs.declared.cmp.Ordering.TheVariants.{Less}
+use Rattle.ibp_algebra.specs.FormalSum.{AllKeys}
+use Rattle.mono_order.specs.Term.{Term}
+use Rattle.module_vec.specs.ModuleVector.{ModuleVector, lead, HasDivisor, IsMonicVector}
+use Rattle.module_basis.specs.GroebnerBasis.{IsMinimal, AscendsByLead, low_elements}
+
+unfoldable pub insert_descending : (Term → Term → Ordering) → ModuleVector → List ModuleVector → List ModuleVector
+insert_descending order g [] = g ∷ []
+insert_descending order g (h ∷ list) = if is_lt (order (lead g) (lead h)) then (h ∷ insert_descending order g list) else (g ∷ h ∷ list)
+
+-- how many vectors in front have leads above the term
+abbrev pub descending_place : (Term → Term → Ordering) → Term → List ModuleVector → ℕ
+descending_place order t [] = 0
+descending_place order t (h ∷ list) = if is_lt (order t (lead h)) then suc (descending_place order t list) else 0
+
+-- monic, with low terms of bounded degree
+abbrev pub IsLowBounded : (Term → Term → Ordering) → ℕ → (ℕ → Bool) → ℕ → ModuleVector → Type 0
+IsLowBounded order variables high limit g = IsMonicVector order variables g × AllKeys (λ t. (high t.0 ≡ false) × (sum t.1 ≤ limit)) g
+
+abbrev pub Descends : (Term → Term → Ordering) → List ModuleVector → Type 0
+Descends order [] = Unit {0}
+Descends order (g ∷ list) = AllByRecursion (λ h. order (lead g) (lead h) ≢ Less) list × Descends order list
+
+pub record IsSortedLow (order : Term → Term → Ordering) (high : ℕ → Bool) (list sorted : List ModuleVector) : Type 0 where
+  pub descends : Descends order sorted
+  pub within : (x : ModuleVector) → Contains sorted x → Contains (low_elements high list) x
+  pub all : (x : ModuleVector) → Contains (low_elements high list) x → Contains sorted x
+  pub short : length sorted ≤ length list
+
+pub record IsKept (order : Term → Term → Ordering) (list kept : List ModuleVector) : Type 0 where
+  pub within : (x : ModuleVector) → Contains kept x → Contains list x
+  pub divided : (x : ModuleVector) → Contains list x → HasDivisor kept (lead x)
+  pub ascends : AscendsByLead order kept
+  pub is_minimal : IsMinimal kept
+  pub short : length kept ≤ length list

@@ -1,0 +1,86 @@
+ghost use Rattle.std.specs.Prelude.{◌≡◌, ◌+◌, ◌^◌, ◌<◌, ◌≤◌, ◌↔◌, true, false, sum, length, List, [], ◌∷◌, IsNone, IfSome, IfOk, OnOk};
+ghost use Rattle.std.specs.List.{All, Contains};
+ghost use Rattle.mono_order.specs.declared.limits.TheConstants.{VARIABLES, RUN_DEGREE};
+ghost use Rattle.mono_order.specs.Term.{lcm_term};
+ghost use Rattle.module_vec.specs.ModuleVector.{IsMonic, IsVector, lead};
+ghost use Rattle.pair_queue.specs.Pairs.{insert_pairs};
+ghost use Rattle.module_basis.specs.PlainRun.{AreNewPairs, pairs_with, has_pair_over};
+
+use crate::fault::BasisFault;
+use ibp_base::NoMemory;
+use module_vec::Vector;
+use mono_order::{RUN_DEGREE, Term, TermOrder};
+use pair_queue::{Pair, PairQueue};
+use std::alloc::Global;
+
+// The lead of a monic vector.
+pub(crate) fn lead_of<O: TermOrder>(v: &Vector<O>) -> Term
+    requires { IsMonic v.now }
+    ensures lead { result ≡ lead v.now }
+    ensures kept { IsVector O.order VARIABLES v.now }
+{
+    let Some((term, _)) = v.lead() else {
+        unreachable!()
+    };
+    term
+}
+
+// The pairs of a new element, whose lead is given, with the elements before it.
+pub(crate) fn formed_pairs<O: TermOrder>(
+    alloc: Global,
+    elements: &[Vector<O>],
+    new: &Term,
+) -> Result<Vec<Pair>, BasisFault>
+    requires monic { All IsMonic elements.now }
+    requires few { length elements.now + 1 < 2 ^ 32 }
+    ensures formed { IfOk result (λ pairs. pairs.items ≡ pairs_with (length elements.now + 1) new.now 1 elements.now) }
+    ensures within { OnOk result (has_pair_over RUN_DEGREE (pairs_with (length elements.now + 1) new.now 1 elements.now) ≡ false) }
+    ensures over { result ≡ Err BasisFault.DegreeOver → has_pair_over RUN_DEGREE (pairs_with (length elements.now + 1) new.now 1 elements.now) ≡ true }
+    ensures not_spent { (result ≡ Err BasisFault.PairsSpent) → ⊥ }
+{
+    let second = elements.len() as u32 + 1;
+    let mut pairs = Vec::new(alloc);
+    for (place, element) in elements.iter().enumerate() {
+        let lead = lead_of(element);
+        if lead.component == new.component {
+            let Some(pair) = pair_of(place as u32 + 1, second, &lead, new) else {
+                return Err(BasisFault::DegreeOver);
+            };
+            pairs.push(pair)?;
+        }
+    }
+    Ok(pairs)
+}
+
+// The pair of two elements with these leads, unless the degree of their least common multiple is above the limit.
+fn pair_of(first: u32, second: u32, left: &Term, right: &Term) -> Option<Pair>
+    ensures none { IsNone result ↔ (RUN_DEGREE < sum (lcm_term left.now right.now).1) }
+    ensures pair { IfSome result (λ pair. pair ≡ record { first = first; second = second; lcm = lcm_term left.now right.now }) }
+{
+    let monomial = left.monomial.lcm(&right.monomial)?;
+    if monomial.degree() > RUN_DEGREE {
+        return None;
+    }
+    Some(Pair {
+        first,
+        second,
+        lcm: Term {
+            component: left.component,
+            monomial,
+        },
+    })
+}
+
+// Puts new pairs at their places.
+pub(crate) fn push_all<O: TermOrder>(
+    queue: &mut PairQueue<O>,
+    pairs: &[Pair],
+) -> Result<(), NoMemory>
+    requires { AreNewPairs O.order pairs.now queue.old }
+    ensures { OnOk result (queue.new ≡ insert_pairs O.order pairs.now queue.old) }
+{
+    for pair in pairs {
+        queue.push(*pair)?;
+    }
+    Ok(())
+}

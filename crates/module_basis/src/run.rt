@@ -1,0 +1,207 @@
+ghost use Rattle.std.specs.Prelude.{◌≡◌, ◌≢◌, ◌+◌, ◌-◌, ◌^◌, ◌<◌, ◌↔◌, ◌⊎◌, true, false, length, get_or, List, [], ◌∷◌, Some, None, IsTrue, IfOk, OnOk};
+ghost use Rattle.std.specs.List.{All};
+ghost use Rattle.mono_order.specs.declared.limits.TheConstants.{VARIABLES, RUN_DEGREE};
+ghost use Rattle.module_vec.specs.ModuleVector.{IsMonic, IsMonicVector, IsVector, IsMember};
+ghost use Rattle.module_vec.specs.Division.{DividesTo, Remainder, OverDegree, monic_of, s_vector as s_vector_of};
+ghost use Rattle.module_basis.specs.GroebnerBasis.{IsGroebnerBasis};
+ghost use Rattle.module_basis.specs.PlainRun.{IsProper, IsSoundState, RunsTo, Done, PairsSpent, DegreeOver, TakesFirst, Next, Over, is_pair_over, opening, with_element};
+
+use crate::basis::Basis;
+use crate::fault::BasisFault;
+use crate::pairs::{formed_pairs, lead_of, push_all};
+use ibp_base::NoMemory;
+use module_division::{normal_form, s_vector};
+use module_vec::{Vector, VectorFault};
+use mono_order::TermOrder;
+use pair_queue::{Pair, PairQueue};
+use std::alloc::Global;
+use std::marker::Model;
+
+/// Buchberger's algorithm with a budget of pairs, after Buchberger, "Ein Algorithmus zum Auffinden der Basiselemente
+/// des Restklassenringes nach einem nulldimensionalen Polynomideal" (1965), for submodules of free modules: the
+/// pair with the least common multiple that is least is taken first, and the remainder of its S-vector is added to
+/// the list, until no pair is left.
+pub fn plain_run<O: TermOrder>(
+    alloc: Global,
+    generators: &[Vector<O>],
+    pairs: u64,
+) -> Result<Basis<O>, BasisFault>
+    requires not_zero { All (λ g. g ≢ []) generators.now }
+    requires few { length generators.now + pairs < 2 ^ 32 }
+    ensures done { IfOk result (λ basis. RunsTo O.order RUN_DEGREE generators.now pairs (Done basis.elements basis.taken)) }
+    ensures spent { result ≡ Err BasisFault.PairsSpent → RunsTo O.order RUN_DEGREE generators.now pairs PairsSpent }
+    ensures over { result ≡ Err BasisFault.DegreeOver → RunsTo O.order RUN_DEGREE generators.now pairs DegreeOver }
+    ensures basis { IfOk result (λ basis. IsGroebnerBasis O.order (IsMember VARIABLES generators.now) basis.elements) }
+{
+    let mut run = Run::opened(alloc, generators)?;
+    'pairs: while !run.is_done() {
+        if run.taken() == pairs {
+            return Err(BasisFault::PairsSpent);
+        }
+        run = run.stepped(alloc)?;
+    }
+    Ok(run.finished())
+}
+
+// The elements of a run, the pairs that are left, and how many pairs were taken.
+#[derive(Drop)]
+struct Run<O: TermOrder> {
+    elements: Vec<Vector<O>>,
+    pairs: PairQueue<O>,
+    taken: u64,
+}
+
+impl<O: TermOrder> Model for Run<O> {
+    ghost use Rattle.mono_order.specs.declared.limits.TheConstants.{VARIABLES};
+    ghost use Rattle.module_basis.specs.PlainRun.{RunState, run_state, IsSoundState};
+
+    ghost Value = { RunState };
+
+    ghost view = { λ r. run_state r.elements.items r.pairs r.taken };
+
+    ghost invariant = { λ r. IsSoundState O.order VARIABLES (run_state r.elements.items r.pairs r.taken) };
+}
+
+impl<O: TermOrder> Run<O> {
+    // The monic multiples of the generators are added in turn.
+    fn opened(alloc: Global, generators: &[Vector<O>]) -> Result<Run<O>, BasisFault>
+        requires not_zero { All (λ g. g ≢ []) generators.now }
+        requires few { length generators.now < 2 ^ 32 }
+        ensures opens { IfOk result (λ run. opening O.order RUN_DEGREE generators.now ≡ Some run) }
+        ensures over { result ≡ Err BasisFault.DegreeOver → opening O.order RUN_DEGREE generators.now ≡ None }
+        ensures not_spent { (result ≡ Err BasisFault.PairsSpent) → ⊥ }
+        ensures vectors { OnOk result (All (IsVector O.order VARIABLES) generators.now) }
+    {
+        let mut run = Run::empty(alloc);
+        for generator in generators {
+            run = run.added(alloc, made_monic(alloc, generator)?)?;
+        }
+        Ok(run)
+    }
+
+    fn empty(alloc: Global) -> Run<O>
+        ensures { result ≡ record { elements = []; pairs = []; taken = 0 } }
+    {
+        Run {
+            elements: Vec::new(alloc),
+            pairs: PairQueue::empty(alloc),
+            taken: 0,
+        }
+    }
+
+    // A monic element is added, with its pairs.
+    fn added(self, alloc: Global, element: Vector<O>) -> Result<Run<O>, BasisFault>
+        requires monic { IsMonic element }
+        requires few { length self.elements + 1 < 2 ^ 32 }
+        ensures added { IfOk result (λ run. with_element O.order RUN_DEGREE self element ≡ Some run) }
+        ensures over { result ≡ Err BasisFault.DegreeOver → with_element O.order RUN_DEGREE self element ≡ None }
+        ensures not_spent { (result ≡ Err BasisFault.PairsSpent) → ⊥ }
+    {
+        let Run {
+            mut elements,
+            mut pairs,
+            taken,
+        } = self;
+        let formed = formed_pairs(alloc, &elements, &lead_of(&element))?;
+        push_all(&mut pairs, &formed)?;
+        elements.push(element)?;
+        Ok(Run {
+            elements,
+            pairs,
+            taken,
+        })
+    }
+
+    // The first pair is taken.
+    fn stepped(self, alloc: Global) -> Result<Run<O>, BasisFault>
+        requires left { self.pairs ≢ [] }
+        requires few { length self.elements + 1 < 2 ^ 32 }
+        requires counted { self.taken + 1 < 2 ^ 64 }
+        ensures next { IfOk result (λ run. TakesFirst O.order RUN_DEGREE self (Next run)) }
+        ensures over { result ≡ Err BasisFault.DegreeOver → TakesFirst O.order RUN_DEGREE self Over }
+        ensures not_spent { (result ≡ Err BasisFault.PairsSpent) → ⊥ }
+    {
+        let Run {
+            elements,
+            mut pairs,
+            taken,
+        } = self;
+        let Some(pair) = pairs.pop() else {
+            unreachable!()
+        };
+        let rest = remainder_of_pair(alloc, &elements, &pair)?;
+        let run = Run {
+            elements,
+            pairs,
+            taken: taken + 1,
+        };
+        if rest.lead().is_none() {
+            return Ok(run);
+        }
+        run.added(alloc, made_monic(alloc, &rest)?)
+    }
+
+    // Whether no pair is left.
+    fn is_done(&self) -> bool
+        ensures { IsTrue result ↔ (self.now.pairs ≡ []) }
+    {
+        self.pairs.len() == 0
+    }
+
+    fn taken(&self) -> u64
+        ensures { result ≡ self.now.taken }
+    {
+        self.taken
+    }
+
+    // The basis that a run ends with.
+    fn finished(self) -> Basis<O>
+        requires basis { IsGroebnerBasis O.order (IsMember VARIABLES self.elements) self.elements }
+        requires few { length self.elements < 2 ^ 32 }
+        ensures elements { result.elements ≡ self.elements }
+        ensures taken { result.taken ≡ self.taken }
+    {
+        let Run {
+            elements,
+            pairs: _,
+            taken,
+        } = self;
+        Basis::of(elements, taken)
+    }
+}
+
+// The vector divided by the coefficient of its lead.
+fn made_monic<O: TermOrder>(alloc: Global, v: &Vector<O>) -> Result<Vector<O>, NoMemory>
+    requires { v.now ≢ [] }
+    ensures value { IfOk result (λ w. w ≡ monic_of O.order v.now) }
+    ensures monic { IfOk result (λ w. IsMonicVector O.order VARIABLES w) }
+    ensures kept { IsVector O.order VARIABLES v.now }
+{
+    let is_zero = v.lead().is_none();
+    prove!(!is_zero);
+    v.monic(alloc)
+}
+
+// The remainder of a pair's S-vector by the elements.
+fn remainder_of_pair<O: TermOrder>(
+    alloc: Global,
+    elements: &[Vector<O>],
+    pair: &Pair,
+) -> Result<Vector<O>, VectorFault>
+    requires monic { All (IsMonicVector O.order VARIABLES) elements.now }
+    requires proper { IsProper elements.now pair.now }
+    ensures within { let g = get_or elements.now (pair.now.first - 1) [] in
+        let h = get_or elements.now (pair.now.second - 1) [] in
+        OnOk result (is_pair_over RUN_DEGREE g h pair.now.lcm ≡ false) }
+    ensures remainder { let g = get_or elements.now (pair.now.first - 1) [] in
+        let h = get_or elements.now (pair.now.second - 1) [] in
+        IfOk result (λ r. DividesTo O.order RUN_DEGREE elements.now (s_vector_of O.order g h) (Remainder r)) }
+    ensures over { let g = get_or elements.now (pair.now.first - 1) [] in
+        let h = get_or elements.now (pair.now.second - 1) [] in
+        result ≡ Err VectorFault.DegreeOver → (is_pair_over RUN_DEGREE g h pair.now.lcm ≡ true) ⊎ ((is_pair_over RUN_DEGREE g h pair.now.lcm ≡ false) × DividesTo O.order RUN_DEGREE elements.now (s_vector_of O.order g h) OverDegree) }
+{
+    let first = &elements[pair.first as usize - 1];
+    let second = &elements[pair.second as usize - 1];
+    let difference = s_vector(alloc, first, second)?;
+    normal_form(alloc, &difference, elements)
+}
