@@ -1,5 +1,5 @@
 -- A new pair is put at the place that an ordered set gives it.
-use Rattle.std.proofs.Common.{◌≡◌, suc, if◌then◌else◌, length, get_or, List, [], ◌∷◌, sym, refl, ap, ◌∙◌, arith}
+use Rattle.std.proofs.Common.{◌≡◌, suc, if◌then◌else◌, List, [], ◌∷◌, sym, refl, ap, arith}
 use Rattle.std.specs.List.{Contains}
 use Rattle.std.specs.FinMap.{IsAntisymmetric, nat_cmp-IsAntisymmetric}
 use Rattle.std.specs.Ordering.{nat_cmp, ordering_then, is_lt, match_ordering}
@@ -7,7 +7,8 @@ use Rattle.std.specs.declared.cmp.Ordering.{Ordering}
 use Rattle.std.specs.declared.cmp.Ordering.TheVariants.{Less, Equal, Greater}
 use Rattle.std.specs.BTreeSet.{insert_key}
 use Rattle.mono_order.specs.Term.{Term}
-use Rattle.pair_queue.specs.Pairs.{Pair, compare_pairs, insert_pair}
+use Rattle.pair_queue.specs.declared.queue.Pair.{Pair}
+use Rattle.pair_queue.specs.Pairs.{compare_pairs, insert_pair}
 
 first_tied : (r s : Ordering) → ordering_then r s ≡ Equal → r ≡ Equal
 first_tied Less s e = e

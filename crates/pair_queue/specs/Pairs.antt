@@ -1,13 +1,12 @@
 -- Pairs of elements of a run, in the order in which the run takes them.
---     Pair                         the numbers of two elements, from 1, and the least common multiple of their leads
 --     compare_pairs                by the least common multiple, then by the second number, then by the first
 --     insert_pair, insert_pairs    a pair is put at its place in a list in this order;  and pairs in turn
-use Rattle.std.specs.Prelude.{ℕ, if◌then◌else◌, List, [], ◌∷◌}
+use Rattle.std.specs.Prelude.{if◌then◌else◌, List, [], ◌∷◌}
 use Rattle.std.specs.Cmp.{IsTotalOrder, on_total, then_total, nat_cmp_total}
 use Rattle.std.specs.Ordering.{nat_cmp, ordering_then, is_lt}
 use Rattle.std.specs.declared.cmp.Ordering.{Ordering}
 use Rattle.mono_order.specs.Term.{Term}
-pub use Rattle.pair_queue.specs.declared.queue.Pair.{Pair}
+use Rattle.pair_queue.specs.declared.queue.Pair.{Pair}
 
 abbrev pub compare_pairs : (Term → Term → Ordering) → Pair → Pair → Ordering
 compare_pairs order p q = ordering_then (order p.lcm q.lcm) (ordering_then (nat_cmp p.second q.second) (nat_cmp p.first q.first))

@@ -1,6 +1,7 @@
 use Rattle.std.proofs.Common.{◌∙◌, ap, List}
 use Rattle.std.specs.BTreeSet.{insert_key}
-use Rattle.pair_queue.specs.Pairs.{Pair, compare_pairs}
+use Rattle.pair_queue.specs.declared.queue.Pair.{Pair}
+use Rattle.pair_queue.specs.Pairs.{compare_pairs}
 use Rattle.pair_queue.proofs.Inserting.{insert_pair-key}
 use Rattle.pair_queue.proofs.queue.PairQueue.push.Goals as goal
 
