@@ -3,6 +3,7 @@ pub mod Digits
 pub mod Filling
 pub mod Joining
 pub mod Layering
+pub mod Listed
 pub mod Members
 pub mod SeedLists
 pub mod Upward

@@ -2,6 +2,8 @@
 ghost use Rattle.std.specs.Prelude.{◌≡◌, ◌<◌, ◌≤◌, ◌-◌, ◌↔◌, IsTrue, ℕ, ℤ, pos, List, slice_index_or, bit_and};
 ghost use Rattle.std.specs.Cmp.{IsTotalOrder};
 ghost use Rattle.sector_lattice.specs.Sectors.{IsMember, is_positive, sector_of, IsSubsector, IsProperSubsector, sector_cmp, integral_cmp};
+ghost use Rattle.sector_lattice.specs.Subsectors.{is_subsector, is_subsector_of_any, IsListedSubsector};
+ghost use Rattle.sector_lattice.specs.declared.sector.Sector.{Sector};
 
 use std::cmp::Ordering;
 
@@ -23,6 +25,12 @@ pub fn subsectors()
     ensures digits { (inner outer : ℕ) → IsSubsector inner outer ↔ (bit_and inner outer ≡ inner) }
     ensures lesser { (inner outer : ℕ) → IsProperSubsector inner outer → inner < outer }
     ensures transitive { (a b c : ℕ) → IsProperSubsector a b → IsProperSubsector b c → IsProperSubsector a c }
+{}
+
+/// What the tests for subsectors answer, by the members of the sectors.
+pub fn subsector_tests()
+    ensures one { (inner outer : ℕ) → IsTrue (is_subsector inner outer) ↔ IsSubsector inner outer }
+    ensures listed { (sector : ℕ) (listed : List Sector) → IsTrue (is_subsector_of_any sector listed) ↔ IsListedSubsector sector listed }
 {}
 
 /// The members of an integral's sector are the places of its positive powers.

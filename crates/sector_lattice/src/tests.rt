@@ -48,6 +48,9 @@ fn orders(rt: HostRuntime) -> Result<(), Fail> {
     assert_eq!(rt; lines(Sector(7)), 3);
     assert!(rt; is_subsector(Sector(1), Sector(5)));
     assert!(rt; !is_subsector(Sector(2), Sector(5)));
+    let listed = [Sector(1), Sector(6)];
+    assert!(rt; is_subsector_of_any(Sector(4), &listed));
+    assert!(rt; !is_subsector_of_any(Sector(5), &listed));
     Ok(())
 }
 

@@ -1,2 +1,1 @@
 pub mod Striking
-pub mod Zeros

@@ -3,12 +3,12 @@ ghost use Rattle.std.specs.Cmp.{partial_equiv_from_equiv};
 ghost use Rattle.ibp_algebra.specs.FormalSum.{IsCanonical, scale, strike};
 ghost use Rattle.ibp_algebra.specs.Spans.{IsLead};
 ghost use Rattle.sector_lattice.specs.Sectors.{integral_cmp};
-ghost use Rattle.sparse_rows.specs.Rows.{SameRow, coefficient_of, lies_in, is_zero, is_zero_integral, same_terms};
+ghost use Rattle.sparse_rows.specs.Rows.{SameRow, coefficient_of, is_zero_integral, same_terms};
 ghost use Rattle.sparse_rows.specs.Equality.{same_terms_equiv};
 
 use ibp_base::NoMemory;
 use ibp_field::Residue;
-use sector_lattice::{Integral, Sector, is_subsector};
+use sector_lattice::{Integral, Sector, is_subsector_of_any};
 use sparse_terms::{KeyOrder, add_multiple, sum_of_terms};
 use std::alloc::Global;
 use std::cmp::Ordering;
@@ -117,7 +117,7 @@ impl Row {
     {
         let mut kept = Vec::new(alloc);
         for (integral, value) in &self.terms {
-            if !is_listed(zero, integral.sector()) {
+            if !is_subsector_of_any(integral.sector(), zero) {
                 kept.push((*integral, *value))?;
             }
         }
@@ -137,19 +137,6 @@ impl PartialEq for Row {
 
 impl Eq for Row {
     ghost laws = { same_terms_equiv };
-}
-
-// Whether the sector is a subsector of a listed one.
-fn is_listed(zero: &[Sector], sector: Sector) -> bool
-    ensures { result ≡ is_zero zero.now sector.0 }
-{
-    zero.iter().any(|outer| lies_in(sector, *outer))
-}
-
-fn lies_in(inner: Sector, outer: Sector) -> bool
-    ensures { result ≡ lies_in inner.0 outer.0 }
-{
-    is_subsector(inner, outer)
 }
 
 #[cfg(test)]
