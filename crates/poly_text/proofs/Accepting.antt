@@ -1,9 +1,9 @@
 -- Reading accepts the texts of the grammar, and each with its tree.
-use Rattle.std.proofs.Common.{◌≡◌, ℕ, List, [], ◌∷◌, refl, sym, ap, subst, ◌∙◌}
-use Rattle.std.specs.Prelude.{Option, Some, None}
+use Rattle.std.proofs.Common.{◌≡◌, ℕ, List, [], ◌∷◌, refl, ap, ◌∙◌}
+use Rattle.std.specs.Prelude.{Some}
 use Rattle.poly_text.specs.Token.{Token}
 use Rattle.poly_text.specs.Tree.{Tree, IsSum, IsProduct, IsFactor, IsPrimary, IsText}
-use Rattle.poly_text.specs.Grammar.{Terms, Factors, Level, Position, State, empty_level, first_state, product_with, sum_with, whole_sum, next_at, run, run_next, complete_at}
+use Rattle.poly_text.specs.Grammar.{Terms, Factors, Level, Position, State, empty_level, product_with, whole_sum, run, complete_at}
 use Rattle.poly_text.specs.Laws.{accepts, complete_run}
 
 abbrev pub Tokens : Type 0

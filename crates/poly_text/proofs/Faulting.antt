@@ -3,9 +3,10 @@ use Rattle.std.proofs.Common.{◌≡◌, ◌^◌, ℕ, List, [], ◌∷◌, ◌+
 use Rattle.std.specs.Prelude.{Option, Some, None, IsSome, is_some, Result, Ok, Err, IsErrAnd, IfOk, nat_lt, ◌==◌}
 use Rattle.ibp_algebra.specs.Polynomial.{Polynomial}
 use Rattle.poly_text.specs.declared.fault.TextFault.{TextFault}
+use Rattle.poly_text.specs.declared.limits.TheConstants.{POWER_LIMIT, DEPTH_LIMIT}
 use Rattle.poly_text.specs.Token.{Token, tokens}
 use Rattle.poly_text.specs.Tree.{Tree, IsText}
-use Rattle.poly_text.specs.Grammar.{State, Level, Position, first_state, is_exponent, next, run, run_next, complete, form_fault, unless_fault, after_next, checked_next, then_state, whole_tree, tree_from, tree_of}
+use Rattle.poly_text.specs.Grammar.{State, first_state, is_exponent, next, run, run_next, complete, form_fault, after_next, then_state, whole_tree, tree_from, tree_of}
 use Rattle.poly_text.specs.Laws.{accepts, complete_run, IsFront, IsStuckAt, IsFormLimit}
 use Rattle.poly_text.specs.Value.{value}
 use Rattle.poly_text.specs.PolyText.{names_of, tree_value, text_answer}
@@ -31,14 +32,14 @@ limit_either false x y h k = k
 
 form_limit : (known : List ℕ → Bool) (state : State) (token : Token) (p : ℕ) → IsLimit (form_fault known state (token, p))
 form_limit known state (Token.whole k) p =
-    limit_either (is_exponent state.position) _ _ (limit_if (nat_lt 20 k) (TextFault.PowerOver p) tt) (limit_unless (nat_lt k (2 ^ 128)) (TextFault.NumberOver p) tt)
+    limit_either (is_exponent state.position) _ _ (limit_if (nat_lt POWER_LIMIT k) (TextFault.PowerOver p) tt) (limit_unless (nat_lt k (2 ^ 128)) (TextFault.NumberOver p) tt)
 form_limit known state (Token.name word) p = limit_unless (known word) (TextFault.UnknownName p) tt
 form_limit known state Token.plus p = tt
 form_limit known state Token.minus p = tt
 form_limit known state Token.times p = tt
 form_limit known state Token.over p = tt
 form_limit known state Token.power p = tt
-form_limit known state Token.opening p = limit_if (length state.outer == 64) (TextFault.DepthOver p) tt
+form_limit known state Token.opening p = limit_if (length state.outer == DEPTH_LIMIT) (TextFault.DepthOver p) tt
 form_limit known state Token.closing p = tt
 form_limit known state Token.stray p = tt
 

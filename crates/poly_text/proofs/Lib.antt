@@ -1,5 +1,6 @@
 pub mod Finding
 pub mod Values
+pub mod Sums
 pub mod Scanning
 pub mod Simulation
 pub mod Steps

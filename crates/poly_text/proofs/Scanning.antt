@@ -1,11 +1,12 @@
 -- Digits, names and the tokens behind a token.
-use Rattle.std.proofs.Common.{◌≡◌, ℕ, zero, suc, ◌+◌, ◌-◌, ◌*◌, ◌^◌, ◌<◌, ◌≤◌, List, [], ◌∷◌, length, drop, take, get_or, Bool, true, false, cond, refl, sym, ap, subst, ◌∙◌, arith, drop-cons, add-one, lit<}
+use Rattle.std.proofs.Common.{◌≡◌, ℕ, zero, suc, ◌+◌, ◌-◌, ◌*◌, ◌^◌, ◌<◌, ◌≤◌, List, [], ◌∷◌, length, drop, take, get_or, Bool, true, false, cond, refl, sym, ap, ◌∙◌, arith, drop-cons}
 use Rattle.std.specs.Prelude.{Option, Some, None, fold, nat_lt, nat_le, ◌==◌, ◌&&◌, ◌||◌, not}
 use Rattle.std.specs.Char.{is_ascii_digit}
 use Rattle.std.specs.List.{list_all}
 use Rattle.std.proofs.lemmas.Bool.{lt-ltb, ltb-false, lt-leb, le-leb}
 use Rattle.std.proofs.lemmas.Bool.Decides.{Decides-eqb, leb_tells, not_from_Decides}
 use Rattle.std.proofs.lemmas.List.{drop_all}
+use Rattle.mono_order.specs.declared.limits.TheConstants.{VARIABLES}
 use Rattle.poly_text.specs.declared.symbol.Named.{Named}
 use Rattle.poly_text.specs.Value.{variable_exponents}
 use Rattle.poly_text.specs.PolyText.{is_variable_name}
@@ -72,7 +73,7 @@ chosen_none true y v h = refl
 chosen_none false true v h = absurd (let e = h refl in cc)
 chosen_none false false v h = refl
 
-pub variable_long : (n : ℕ) (word : List ℕ) → n ≤ 9 → is_variable_name word ≡ true → (length word ≡ 2 → ⊥) → None ≡ named_variable n word
+pub variable_long : (n : ℕ) (word : List ℕ) → n ≤ VARIABLES → is_variable_name word ≡ true → (length word ≡ 2 → ⊥) → None ≡ named_variable n word
 variable_long n [] few form other = refl
 variable_long n (b ∷ []) few form other = refl
 variable_long n (b ∷ d ∷ []) few form other = absurd (other refl)
@@ -96,7 +97,7 @@ variable_found n i (b ∷ d ∷ []) m form two is positive within made =
     ∙ ap (λ c. cond c (Some (Named.Variable (variable_exponents (whole_value (d ∷ []))))) None) (sym (and_true (not (d == 48)) (nat_le (whole_value (d ∷ [])) n) (ap not not_zero) test))
 variable_found n i (b ∷ d ∷ e ∷ ds) m form two is positive within made = absurd (omega (arith, two))
 
-pub variable_missing : (n i : ℕ) (word : List ℕ) → n ≤ 9 → is_variable_name word ≡ true → i ≡ get_or word 1 0 - 48 → (0 < i → n < i) → None ≡ named_variable n word
+pub variable_missing : (n i : ℕ) (word : List ℕ) → n ≤ VARIABLES → is_variable_name word ≡ true → i ≡ get_or word 1 0 - 48 → (0 < i → n < i) → None ≡ named_variable n word
 variable_missing n i [] few form is outside = refl
 variable_missing n i (b ∷ []) few form is outside = refl
 variable_missing n i (b ∷ d ∷ []) few form is outside =

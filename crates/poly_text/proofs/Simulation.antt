@@ -1,10 +1,11 @@
 -- Reading with values gives the value of the tree that reading with trees gives, or the same fault.
-use Rattle.std.proofs.Common.{◌≡◌, ℕ, zero, suc, ◌+◌, ◌^◌, ◌<◌, ◌≤◌, List, [], ◌∷◌, map, length, Bool, true, false, cond, refl, sym, ap, ◌∙◌, arith, lit<}
+use Rattle.std.proofs.Common.{◌≡◌, ℕ, ◌^◌, List, [], ◌∷◌, map, length, Bool, true, false, cond, refl, sym, ap, ◌∙◌, arith}
 use Rattle.std.specs.Prelude.{Option, Some, None, is_some, option_map, Result, Ok, Err, nat_lt, nat_le, ◌==◌, ◌&&◌, not}
-use Rattle.std.proofs.lemmas.Bool.{lt-ltb, ltb-false}
+use Rattle.std.proofs.lemmas.Bool.{ltb-false}
 use Rattle.std.proofs.lemmas.List.{length-map}
 use Rattle.ibp_algebra.specs.Polynomial.{Polynomial}
 use Rattle.poly_text.specs.declared.fault.TextFault.{TextFault}
+use Rattle.poly_text.specs.declared.limits.TheConstants.{NAME_LIMIT, POWER_LIMIT, DEPTH_LIMIT}
 use Rattle.poly_text.specs.declared.symbol.Symbol.{Symbol}
 use Rattle.poly_text.specs.declared.symbol.Named.{Named}
 use Rattle.poly_text.specs.declared.reader.SumSoFar.{SumSoFar}
@@ -13,11 +14,11 @@ use Rattle.poly_text.specs.declared.reader.OpenSum.{OpenSum}
 use Rattle.poly_text.specs.declared.reader.Expected.{Expected}
 use Rattle.poly_text.specs.Token.{Token, tokens, whole_value}
 use Rattle.poly_text.specs.Tree.{Tree}
-use Rattle.poly_text.specs.Grammar.{Terms, Factors, Level, Position, State, first_state, empty_level, closed, product_with, sum_with, whole_sum, unless_fault, after_next, checked_next, then_state, whole_tree, complete, complete_at, tree_from, tree_of, next_at, form_fault}
+use Rattle.poly_text.specs.Grammar.{Terms, Factors, Level, Position, State, first_state, empty_level, closed, product_with, sum_with, whole_sum, unless_fault, after_next, checked_next, then_state, whole_tree, complete_at, tree_from}
 use Rattle.poly_text.specs.Value.{value, known_value, constant, variable, variable_exponents}
 use Rattle.poly_text.specs.PolyText.{names_of, variable_named, is_variable_name, tree_value, text_answer}
-use Rattle.poly_text.specs.Symbols.{limited, named, named_variable, named_value, symbol_for}
-use Rattle.poly_text.specs.Reading.{Reading, Operand, reads, product_value, sum_value, level_value, primary_value, read_primary_value, read_operand, read_start, read_closed, read_factor, read_primary, read_exponent, read_at, read_next, read_end, read_end_at, then_reading, read_tokens, first_reading}
+use Rattle.poly_text.specs.Symbols.{named, named_variable, named_value, symbol_for}
+use Rattle.poly_text.specs.Reading.{Reading, Operand, reads, product_value, sum_value, level_value, primary_value, read_primary_value, read_operand, read_start, read_closed, read_factor, read_primary, read_exponent, read_next, read_end, then_reading, read_tokens, first_reading}
 
 -- what a name stands for, and what it is read as
 chosen_value : (b : Bool) (i : ℕ) → option_map named_value (cond b (Some (Named.Variable (variable_exponents i))) None) ≡ cond b (Some (variable i)) None
@@ -41,7 +42,7 @@ either_value false x y v w p q = q
 
 pub value-named : (n : ℕ) (number : List ℕ → Option ℕ) (word : List ℕ) → option_map named_value (named n number word) ≡ names_of n number word
 value-named n number word =
-    either_value (is_variable_name word) _ _ _ _ (variable_value n word) (number_value (nat_le (length word) 32) (number word))
+    either_value (is_variable_name word) _ _ _ _ (variable_value n word) (number_value (nat_le (length word) NAME_LIMIT) (number word))
 
 module _ (n : ℕ) (number : List ℕ → Option ℕ) where
   abbrev tree_operand : Tree → Operand
@@ -140,8 +141,8 @@ module _ (n : ℕ) (number : List ℕ → Option ℕ) where
   operand_step Token.over p level outer = refl
   operand_step Token.power p level outer = refl
   operand_step Token.opening p level outer =
-      ap (λ m. cond (m == 64) (Err (TextFault.DepthOver p)) (Ok (reads Expected.Start (valued_level empty_level) (valued_level level ∷ map valued_level outer)))) (length-map outer valued_level)
-      ∙ open_if (length outer == 64) p level outer
+      ap (λ m. cond (m == DEPTH_LIMIT) (Err (TextFault.DepthOver p)) (Ok (reads Expected.Start (valued_level empty_level) (valued_level level ∷ map valued_level outer)))) (length-map outer valued_level)
+      ∙ open_if (length outer == DEPTH_LIMIT) p level outer
   operand_step Token.closing p level outer = refl
   operand_step Token.stray p level outer = refl
 
@@ -193,7 +194,7 @@ module _ (n : ℕ) (number : List ℕ → Option ℕ) where
   primary_step t Token.closing p level outer = factor_step t Token.closing p level outer
   primary_step t Token.stray p level outer = refl
 
-  power_if : (b small : Bool) (t : Tree) (q k p : ℕ) (level : Level) (outer : List Level) → nat_lt k (2 ^ 128) ≡ b → nat_lt 20 k ≡ small
+  power_if : (b small : Bool) (t : Tree) (q k p : ℕ) (level : Level) (outer : List Level) → nat_lt k (2 ^ 128) ≡ b → nat_lt POWER_LIMIT k ≡ small
       → read_exponent (tree_operand t) q (valued_level level) (map valued_level outer) (Symbol.Whole (cond b (Some k) None)) p
       ≡ mapped (unless_fault (cond small (Some (TextFault.PowerOver p)) None) (record { position = Position.factor (Tree.power t q k); level = level; outer = outer }))
   power_if true small t q k p level outer e f =
@@ -206,11 +207,11 @@ module _ (n : ℕ) (number : List ℕ → Option ℕ) where
       power_end true t q k p level outer = refl
       power_end false t q k p level outer = refl
   power_if false true t q k p level outer e f = refl
-  power_if false false t q k p level outer e f = absurd (omega (arith, ltb-false k (2 ^ 128) e, ltb-false 20 k f))
+  power_if false false t q k p level outer e f = absurd (omega (arith, ltb-false k (2 ^ 128) e, ltb-false POWER_LIMIT k f))
 
   exponent_step : (t : Tree) (q : ℕ) (token : Token) (p : ℕ) (level : Level) (outer : List Level)
       → read_exponent (tree_operand t) q (valued_level level) (map valued_level outer) (symbol_for n number token) p ≡ checked (Position.exponent t q) level outer (token, p)
-  exponent_step t q (Token.whole k) p level outer = power_if (nat_lt k (2 ^ 128)) (nat_lt 20 k) t q k p level outer refl refl
+  exponent_step t q (Token.whole k) p level outer = power_if (nat_lt k (2 ^ 128)) (nat_lt POWER_LIMIT k) t q k p level outer refl refl
   exponent_step t q (Token.name word) p level outer = refl
   exponent_step t q Token.plus p level outer = refl
   exponent_step t q Token.minus p level outer = refl

@@ -1,5 +1,5 @@
 -- The steps of the loop over a text.
-use Rattle.std.proofs.Common.{◌≡◌, ℕ, zero, suc, ◌+◌, ◌-◌, ◌<◌, ◌≤◌, List, [], ◌∷◌, length, drop, take, Bool, true, false, refl, sym, ap, subst, ◌∙◌, arith, length-drop}
+use Rattle.std.proofs.Common.{◌≡◌, ℕ, suc, ◌+◌, ◌-◌, ◌≤◌, List, [], ◌∷◌, length, drop, take, true, false, refl, sym, ap, subst, ◌∙◌, arith, length-drop}
 use Rattle.std.proofs.lemmas.List.{take_all}
 use Rattle.std.specs.Prelude.{Option, Some, None, Result, Ok, Err, slice_get}
 use Rattle.std.specs.Ordering.{nat_cmp}
@@ -9,7 +9,7 @@ use Rattle.ibp_algebra.specs.Polynomial.{Polynomial}
 use Rattle.poly_text.specs.Value.{constant_term}
 use Rattle.poly_text.specs.declared.fault.TextFault.{TextFault}
 use Rattle.poly_text.specs.declared.symbol.Symbol.{Symbol}
-use Rattle.poly_text.specs.Token.{Token, is_blank, further_bytes, token_of, tokens_from, tokens}
+use Rattle.poly_text.specs.Token.{is_blank, further_bytes, token_of, tokens_from, tokens}
 use Rattle.poly_text.specs.PolyText.{Fails, Answers, NumbersValue, value_in, text_answer, number_value, number_answer}
 use Rattle.poly_text.specs.Symbols.{symbol_for}
 use Rattle.poly_text.specs.Reading.{Reading, Operand, read_next, read_tokens, read_end, then_reading, first_reading}

@@ -1,6 +1,6 @@
 -- What the operators give is the canonical list that their definitions name.
 use Rattle.std.proofs.Common.{◌≡◌, ℕ, zero, suc, ◌+◌, ◌*◌, ◌-◌, ◌<◌, ◌≤◌, List, [], ◌∷◌, ◌++◌, refl, sym, ap, subst, ◌∙◌, arith}
-use Rattle.std.specs.Prelude.{Result, Ok, Err, IfOk, Option, Some, slice_get, cond, nat_lt, Bool, true, false, sum}
+use Rattle.std.specs.Prelude.{Result, Ok, Err, IfOk, Some, slice_get, cond, sum}
 use Rattle.std.proofs.lemmas.Bool.{le-ltb}
 use Rattle.ibp_field.specs.Arithmetic.{IsCongruent, mul_mod, inverse_mod}
 use Rattle.ibp_field.proofs.Congruence.{IsCongruent-refl, IsCongruent-sym, IsCongruent-trans, IsCongruent-mul, IsCongruent-from_eq}
@@ -14,9 +14,9 @@ use Rattle.ibp_algebra.proofs.SumLaws.{SameCoefficients-refl, SameCoefficients-s
 use Rattle.ibp_algebra.proofs.NormalForm.{IsCanonical-normal_form, SameCoefficients-normal_form}
 use Rattle.ibp_algebra.proofs.PolynomialLaws.{same_polynomials, SamePolynomial-append}
 use Rattle.poly_text.specs.declared.fault.TextFault.{TextFault}
-use Rattle.poly_text.specs.Value.{constant, is_zero, constant_term, within_terms, difference_of, product_of, quotient_of, power_of, then_value}
+use Rattle.poly_text.specs.Value.{within_terms, difference_of, product_of, quotient_of, power_of, then_value}
 
-same_normal_form : (f : Polynomial) → SamePolynomial (normal_form deg_rev_lex f) f
+pub same_normal_form : (f : Polynomial) → SamePolynomial (normal_form deg_rev_lex f) f
 same_normal_form f = SameCoefficients-normal_form deg_rev_lex deg_rev_lex_total deg_rev_lex_unique same_exponents exponents_decide f
 
 canonical_normal_form : (f : Polynomial) → IsCanonical deg_rev_lex (normal_form deg_rev_lex f)

@@ -7,6 +7,7 @@
 --     tree_of known end ts      the tree of these tokens, or the first fault of their form
 use Rattle.std.specs.Prelude.{ℕ, ◌^◌, ◌==◌, nat_lt, Bool, true, false, if◌then◌else◌, Option, Some, None, Result, Ok, Err, List, [], ◌∷◌, length}
 use Rattle.poly_text.specs.declared.fault.TextFault.{TextFault}
+use Rattle.poly_text.specs.declared.limits.TheConstants.{POWER_LIMIT, DEPTH_LIMIT}
 use Rattle.poly_text.specs.Token.{Token}
 use Rattle.poly_text.specs.Tree.{Tree}
 
@@ -128,10 +129,10 @@ is_exponent position = false
 -- what is wrong with a token that the grammar allows; a test says which names are known
 abbrev pub form_fault : (List ℕ → Bool) → State → Token × ℕ → Option TextFault
 form_fault known state (Token.whole k, p) =
-    if is_exponent state.position then (if nat_lt 20 k then Some (TextFault.PowerOver p) else None)
+    if is_exponent state.position then (if nat_lt POWER_LIMIT k then Some (TextFault.PowerOver p) else None)
     else if nat_lt k (2 ^ 128) then None else Some (TextFault.NumberOver p)
 form_fault known state (Token.name word, p) = if known word then None else Some (TextFault.UnknownName p)
-form_fault known state (Token.opening, p) = if length state.outer == 64 then Some (TextFault.DepthOver p) else None
+form_fault known state (Token.opening, p) = if length state.outer == DEPTH_LIMIT then Some (TextFault.DepthOver p) else None
 form_fault known state (token, p) = None
 
 abbrev pub unless_fault : {A : Type 0} → Option TextFault → A → Result A TextFault

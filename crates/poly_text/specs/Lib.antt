@@ -2,6 +2,7 @@ pub mod Token
 pub mod Tree
 pub mod Grammar
 pub mod Value
+pub mod Sum
 pub mod PolyText
 pub mod Symbols
 pub mod Reading

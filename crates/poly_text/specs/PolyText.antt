@@ -5,7 +5,7 @@
 --     text_answer n number bytes     the polynomial of a text, as its canonical list of terms, or its fault
 --     number_answer bytes       the number of a text without variables and names, or its fault
 --     Answers result given      the result is the one given, unless memory ran out
-use Rattle.std.specs.Prelude.{◌≡◌, ℕ, ◌==◌, nat_le, Bool, true, false, ◌&&◌, not, if◌then◌else◌, Option, Some, None, is_some, option_map, Result, Ok, Err, List, [], ◌∷◌, length}
+use Rattle.std.specs.Prelude.{◌≡◌, ℕ, ◌==◌, nat_le, Bool, false, ◌&&◌, not, if◌then◌else◌, Option, Some, None, is_some, option_map, Result, Ok, Err, List, [], ◌∷◌, length}
 use Rattle.std.specs.List.{list_all}
 use Rattle.std.specs.Ordering.{nat_cmp}
 use Rattle.std.specs.Cmp.Lexicographic.{slice_cmp}
@@ -13,6 +13,7 @@ use Rattle.std.specs.Char.{is_ascii_digit}
 use Rattle.std.specs.FinMap as map
 use Rattle.ibp_algebra.specs.Polynomial.{Polynomial}
 use Rattle.poly_text.specs.declared.fault.TextFault.{TextFault}
+use Rattle.poly_text.specs.declared.limits.TheConstants.{NAME_LIMIT}
 use Rattle.poly_text.specs.Token.{whole_value, tokens}
 use Rattle.poly_text.specs.Tree.{Tree}
 use Rattle.poly_text.specs.Grammar.{tree_of}
@@ -39,7 +40,7 @@ variable_named n (b ∷ digit ∷ digits) =
 abbrev pub names_of : ℕ → (List ℕ → Option ℕ) → List ℕ → Option Polynomial
 names_of n number word =
     if is_variable_name word then variable_named n word
-    else if nat_le (length word) 32 then option_map constant (number word) else None
+    else if nat_le (length word) NAME_LIMIT then option_map constant (number word) else None
 
 abbrev pub tree_value : (List ℕ → Option Polynomial) → Result Tree TextFault → Result Polynomial TextFault
 tree_value names (Ok t) = value names t

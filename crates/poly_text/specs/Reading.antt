@@ -2,6 +2,7 @@
 use Rattle.std.specs.Prelude.{◌≡◌, ℕ, ◌==◌, nat_lt, if◌then◌else◌, Option, Some, None, Result, Ok, Err, List, [], ◌∷◌, length, reverse}
 use Rattle.ibp_algebra.specs.Polynomial.{Polynomial}
 use Rattle.poly_text.specs.declared.fault.TextFault.{TextFault}
+use Rattle.poly_text.specs.declared.limits.TheConstants.{POWER_LIMIT, DEPTH_LIMIT}
 use Rattle.poly_text.specs.declared.symbol.Symbol.{Symbol}
 use Rattle.poly_text.specs.declared.reader.Operator.{Operator}
 use Rattle.poly_text.specs.declared.reader.SumSoFar.{SumSoFar}
@@ -30,8 +31,6 @@ abbrev pub empty_sum : OpenSum
 empty_sum = record { sum = SumSoFar.Empty; product = ProductSoFar.Empty }
 
 abbrev pub operation : Operator → ℕ → Polynomial → Polynomial → Operand
-operation Operator.Plus at f g = sum_of at f g
-operation Operator.Minus at f g = difference_of at f g
 operation Operator.Times at f g = product_of at f g
 operation Operator.Over at f g = quotient_of at f g
 
@@ -46,8 +45,8 @@ product_value (ProductSoFar.Over u at) v = combined Operator.Over at u v
 abbrev pub sum_value : SumSoFar → Operand → Operand
 sum_value SumSoFar.Empty v = v
 sum_value SumSoFar.Negative v = then_value v (λ f. Ok (negative_of f))
-sum_value (SumSoFar.Plus u at) v = combined Operator.Plus at u v
-sum_value (SumSoFar.Minus u at) v = combined Operator.Minus at u v
+sum_value (SumSoFar.Plus u at) v = both_values (sum_of at) u v
+sum_value (SumSoFar.Minus u at) v = both_values (difference_of at) u v
 
 abbrev pub level_value : OpenSum → Operand → Operand
 level_value level v = sum_value level.sum (product_value level.product v)
@@ -65,7 +64,7 @@ read_primary_value (Ok f) level outer = Ok (reads (Expected.Primary (Ok f)) leve
 read_primary_value (Err fault) level outer = Err fault
 
 abbrev pub read_open : OpenSum → List OpenSum → ℕ → Result Reading TextFault
-read_open level outer at = if length outer == 64 then Err (TextFault.DepthOver at) else Ok (reads Expected.Start empty_sum (level ∷ outer))
+read_open level outer at = if length outer == DEPTH_LIMIT then Err (TextFault.DepthOver at) else Ok (reads Expected.Start empty_sum (level ∷ outer))
 
 abbrev pub read_operand : OpenSum → List OpenSum → Symbol → ℕ → Result Reading TextFault
 read_operand level outer Symbol.Open at = read_open level outer at
@@ -96,7 +95,7 @@ abbrev pub raised : Operand → ℕ → ℕ → Operand
 raised v at k = then_value v (λ f. power_of at f k)
 
 abbrev pub read_exponent : Operand → ℕ → OpenSum → List OpenSum → Symbol → ℕ → Result Reading TextFault
-read_exponent v place level outer (Symbol.Whole (Some k)) at = if nat_lt 20 k then Err (TextFault.PowerOver at) else Ok (reads (Expected.Factor (raised v place k)) level outer)
+read_exponent v place level outer (Symbol.Whole (Some k)) at = if nat_lt POWER_LIMIT k then Err (TextFault.PowerOver at) else Ok (reads (Expected.Factor (raised v place k)) level outer)
 read_exponent v place level outer (Symbol.Whole None) at = Err (TextFault.PowerOver at)
 read_exponent v place level outer symbol at = Err (TextFault.Syntax at)
 

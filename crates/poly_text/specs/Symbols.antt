@@ -2,6 +2,7 @@
 -- large for its type for none.
 use Rattle.std.specs.Prelude.{ℕ, ◌^◌, ◌==◌, nat_lt, nat_le, ◌&&◌, not, if◌then◌else◌, Option, Some, None, option_map, List, [], ◌∷◌, length}
 use Rattle.ibp_algebra.specs.Polynomial.{Polynomial}
+use Rattle.poly_text.specs.declared.limits.TheConstants.{NAME_LIMIT}
 use Rattle.poly_text.specs.declared.symbol.Named.{Named}
 use Rattle.poly_text.specs.declared.symbol.Symbol.{Symbol}
 use Rattle.poly_text.specs.Token.{Token, whole_value}
@@ -21,7 +22,7 @@ named_variable n (b ∷ digit ∷ digits) =
 abbrev pub named : ℕ → (List ℕ → Option ℕ) → List ℕ → Option Named
 named n number word =
     if is_variable_name word then named_variable n word
-    else if nat_le (length word) 32 then option_map (λ c. Named.Number c) (number word) else None
+    else if nat_le (length word) NAME_LIMIT then option_map (λ c. Named.Number c) (number word) else None
 
 abbrev pub named_value : Named → Polynomial
 named_value (Named.Number c) = constant c

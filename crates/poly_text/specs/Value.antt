@@ -1,20 +1,22 @@
 -- The value of a tree: an operator after its operands, from left to right, and the first fault. Values are
--- canonical lists of terms of nine variables.
-use Rattle.std.specs.Prelude.{ℕ, zero, suc, ◌+◌, ◌-◌, ◌==◌, nat_lt, Bool, true, false, ◌&&◌, not, if◌then◌else◌, Option, Some, None, Result, Ok, Err, List, [], ◌∷◌, ◌++◌, length, replicate, slice_set}
+-- canonical lists of terms, with one exponent for each variable of `Monomial`.
+use Rattle.std.specs.Prelude.{ℕ, zero, suc, ◌+◌, ◌-◌, nat_lt, Bool, true, false, ◌&&◌, not, if◌then◌else◌, Option, Some, None, Result, Ok, Err, List, [], ◌∷◌, ◌++◌, length, replicate, slice_set}
 use Rattle.ibp_field.specs.Arithmetic.{inverse_mod}
 use Rattle.ibp_algebra.specs.FormalSum.{scale, with_term, normal_form}
 use Rattle.ibp_algebra.specs.Exponents.{deg_rev_lex}
 use Rattle.ibp_algebra.specs.Polynomial.{Polynomial, multiply, degree_of}
+use Rattle.mono_order.specs.declared.limits.TheConstants.{VARIABLES}
 use Rattle.poly_text.specs.declared.fault.TextFault.{TextFault}
+use Rattle.poly_text.specs.declared.limits.TheConstants.{DEGREE_LIMIT, TERM_LIMIT}
 use Rattle.poly_text.specs.Tree.{Tree}
 
 -- a number as a polynomial
 abbrev pub constant : ℕ → Polynomial
-constant c = with_term (replicate 9 0, c) []
+constant c = with_term (replicate VARIABLES 0, c) []
 
 -- the variable z_i
 abbrev pub variable_exponents : ℕ → List ℕ
-variable_exponents i = slice_set (replicate 9 0) (i - 1) 1
+variable_exponents i = slice_set (replicate VARIABLES 0) (i - 1) 1
 
 abbrev pub variable : ℕ → Polynomial
 variable i = (variable_exponents i, 1) ∷ []
@@ -29,7 +31,7 @@ constant_term [] = 0
 constant_term (term ∷ terms) = term.1
 
 abbrev pub within_terms : ℕ → Polynomial → Result Polynomial TextFault
-within_terms at f = if nat_lt 20000 (length f) then Err (TextFault.TermsOver at) else Ok f
+within_terms at f = if nat_lt TERM_LIMIT (length f) then Err (TextFault.TermsOver at) else Ok f
 
 abbrev pub sum_of : ℕ → Polynomial → Polynomial → Result Polynomial TextFault
 sum_of at f g = within_terms at (normal_form deg_rev_lex (f ++ g))
@@ -39,7 +41,7 @@ difference_of at f g = within_terms at (normal_form deg_rev_lex (f ++ scale 2147
 
 abbrev pub product_of : ℕ → Polynomial → Polynomial → Result Polynomial TextFault
 product_of at f g =
-    if not (is_zero f) && not (is_zero g) && nat_lt 24 (degree_of f + degree_of g) then Err (TextFault.DegreeOver at)
+    if not (is_zero f) && not (is_zero g) && nat_lt DEGREE_LIMIT (degree_of f + degree_of g) then Err (TextFault.DegreeOver at)
     else within_terms at (normal_form deg_rev_lex (multiply f g))
 
 abbrev pub quotient_of : ℕ → Polynomial → Polynomial → Result Polynomial TextFault

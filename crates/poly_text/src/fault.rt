@@ -16,10 +16,10 @@ pub enum TextFault {
     /// A whole number above 2^128 - 1.
     #[error("number over at {at}")]
     NumberOver { at: u32 },
-    /// An exponent above 20.
+    /// An exponent above `POWER_LIMIT`.
     #[error("power over at {at}")]
     PowerOver { at: u32 },
-    /// The 65th parenthesis that is open at once.
+    /// A parenthesis inside `DEPTH_LIMIT` open ones.
     #[error("depth over at {at}")]
     DepthOver { at: u32 },
     /// A divisor that is zero modulo the prime.
@@ -28,10 +28,10 @@ pub enum TextFault {
     /// A divisor with a variable.
     #[error("not constant at {at}")]
     NotConstant { at: u32 },
-    /// A product of degree above 24.
+    /// A product of degree above `DEGREE_LIMIT`.
     #[error("degree over at {at}")]
     DegreeOver { at: u32 },
-    /// A sum or a product of more than 20,000 terms.
+    /// A sum or a product of more than `TERM_LIMIT` terms.
     #[error("terms over at {at}")]
     TermsOver { at: u32 },
     /// Memory ran out.

@@ -3,15 +3,18 @@
 
 mod fault;
 pub mod laws;
+mod limits;
 mod numbers;
 mod parse;
 mod reader;
 mod scan;
 mod step;
+mod sum;
 mod symbol;
 mod value;
 
 pub use fault::TextFault;
+pub use limits::{DEGREE_LIMIT, DEPTH_LIMIT, NAME_LIMIT, POWER_LIMIT, TERM_LIMIT};
 pub use numbers::Numbers;
 pub use parse::{parse_number, parse_poly};
 

@@ -1,6 +1,7 @@
 //! Reading a text.
 
 ghost use Rattle.std.specs.Prelude.{◌^◌, ◌<◌, ◌≤◌, length};
+ghost use Rattle.mono_order.specs.declared.limits.TheConstants.{VARIABLES};
 ghost use Rattle.poly_text.specs.Token.{tokens};
 ghost use Rattle.poly_text.specs.Reading.{Gives, reading_of, read_tokens, first_reading};
 ghost use Rattle.poly_text.specs.PolyText.{text_answer, number_answer, value_in, Answers};
@@ -16,7 +17,7 @@ use std::alloc::Global;
 
 // The reader behind all tokens of a text.
 fn read_tokens(alloc: Global, text: &[u8], n: u8, numbers: &Numbers) -> Result<Reader, TextFault>
-    requires variables { n ≤ 9 }
+    requires variables { n ≤ VARIABLES }
     requires short { length text.now < 2 ^ 32 }
     ensures { Gives reading_of result (read_tokens n (value_in numbers.now) first_reading (tokens text.now)) }
 {
@@ -39,7 +40,7 @@ fn read_tokens(alloc: Global, text: &[u8], n: u8, numbers: &Numbers) -> Result<R
 /// The polynomial that a text stands for, in the variables z1 to zn and with these numbers. A fault has its
 /// place in the text, in bytes: the first fault of its form, or else the first of its value.
 pub fn parse_poly(alloc: Global, text: &str, n: u8, numbers: &Numbers) -> Result<Poly, TextFault>
-    requires variables { n ≤ 9 }
+    requires variables { n ≤ VARIABLES }
     requires short { length text.now < 2 ^ 32 }
     ensures { Answers result (text_answer n (value_in numbers.now) text.now) }
 {

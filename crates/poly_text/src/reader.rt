@@ -1,15 +1,15 @@
 //! Reading symbol by symbol, from the left. An operator is computed as soon as its operands have been read.
 
 use crate::fault::TextFault;
+use crate::sum::SumValue;
 use sparse_poly::Poly;
 
 /// A value, or the first fault met while it was computed.
 pub type Operand = Result<Poly, TextFault>;
 
+/// An operator of a product.
 #[derive(Clone, Copy)]
 pub enum Operator {
-    Plus,
-    Minus,
     Times,
     Over,
 }
@@ -19,8 +19,8 @@ pub enum Operator {
 pub enum SumSoFar {
     Empty,
     Negative,
-    Plus(Operand, u32),
-    Minus(Operand, u32),
+    Plus(SumValue, u32),
+    Minus(SumValue, u32),
 }
 
 /// The factors of a product that have been read, with the operator before the next one and its place.

@@ -3,16 +3,15 @@
 ghost use Rattle.std.specs.Prelude.{◌≡◌, ◌+◌, ◌*◌, ◌-◌, ◌≤◌, ◌<◌, ◌^◌, length, true, IfSome};
 ghost use Rattle.std.specs.Char.{is_ascii_digit};
 ghost use Rattle.std.specs.List.{prefix_len, list_all};
+ghost use Rattle.mono_order.specs.declared.limits.TheConstants.{VARIABLES};
 ghost use Rattle.poly_text.specs.Token.{is_blank, is_initial, is_word, whole_value, further_bytes, token_of};
 ghost use Rattle.poly_text.specs.PolyText.{value_in, is_variable_name};
 ghost use Rattle.poly_text.specs.Symbols.{limited, named_variable, named, symbol_for};
 
+use crate::limits::NAME_LIMIT;
 use crate::numbers::Numbers;
 use crate::symbol::{Named, Symbol};
 use mono_order::Monomial;
-
-/// The greatest length of a name, in bytes.
-const NAME_LIMIT: usize = 32;
 
 pub fn is_blank(byte: u8) -> bool
     ensures { result ≡ is_blank byte }
@@ -101,7 +100,7 @@ fn is_variable_name(word: &[u8]) -> bool
 
 // The variable that a name of this form stands for.
 fn named_variable(n: u8, word: &[u8]) -> Option<Named>
-    requires few { n ≤ 9 }
+    requires few { n ≤ VARIABLES }
     requires form { is_variable_name word.now ≡ true }
     ensures { result ≡ named_variable n word.now }
 {
@@ -118,7 +117,7 @@ fn named_variable(n: u8, word: &[u8]) -> Option<Named>
 
 // What a name stands for.
 fn named(word: &[u8], n: u8, numbers: &Numbers) -> Option<Named>
-    requires { n ≤ 9 }
+    requires { n ≤ VARIABLES }
     ensures { result ≡ named n (value_in numbers.now) word.now }
 {
     if is_variable_name(word) {
@@ -135,7 +134,7 @@ fn named(word: &[u8], n: u8, numbers: &Numbers) -> Option<Named>
 
 /// The symbol that begins with this byte and has these bytes.
 pub fn symbol_of(first: u8, word: &[u8], n: u8, numbers: &Numbers) -> Symbol
-    requires { n ≤ 9 }
+    requires { n ≤ VARIABLES }
     ensures { result ≡ symbol_for n (value_in numbers.now) (token_of first word.now) }
 {
     if first.is_ascii_digit() {

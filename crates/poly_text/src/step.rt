@@ -6,21 +6,15 @@ ghost use Rattle.poly_text.specs.PolyText.{Answers};
 ghost use Rattle.poly_text.specs.Symbols.{named_value};
 
 use crate::fault::TextFault;
+use crate::limits::{DEPTH_LIMIT, POWER_LIMIT};
 use crate::reader::{Expected, OpenSum, Operand, Operator, ProductSoFar, Reader, SumSoFar};
+use crate::sum::SumValue;
 use crate::symbol::{Named, Symbol};
-use crate::value::{
-    constant, difference_of, negative_of, power_of, power_product, product_of, quotient_of, sum_of,
-};
+use crate::value::{constant, negative_of, power_of, power_product, product_of, quotient_of};
 use ibp_base::NoMemory;
 use ibp_field::Residue;
 use sparse_poly::Poly;
 use std::alloc::Global;
-
-/// The greatest number of parentheses that are open at once.
-const DEPTH_LIMIT: usize = 64;
-
-/// The greatest exponent.
-const POWER_LIMIT: u128 = 20;
 
 fn empty_sum() -> OpenSum
     ensures { result ≡ empty_sum }
@@ -42,7 +36,7 @@ pub fn first_reader(alloc: Global) -> Reader
     }
 }
 
-// The value of an operator, where its operands have values.
+// The value of an operator of a product, where its operands have values.
 fn combined(
     alloc: Global,
     operator: Operator,
@@ -61,8 +55,6 @@ fn combined(
         Err(fault) => return Ok(Err(fault)),
     };
     match operator {
-        Operator::Plus => sum_of(alloc, &left, &right, at),
-        Operator::Minus => difference_of(alloc, &left, &right, at),
         Operator::Times => product_of(alloc, &left, &right, at),
         Operator::Over => quotient_of(alloc, &left, &right, at),
     }
@@ -80,27 +72,35 @@ fn product_value(alloc: Global, product: ProductSoFar, factor: Operand) -> Resul
 }
 
 // The value of a sum with its next term.
-fn sum_value(alloc: Global, sum: SumSoFar, term: Operand) -> Result<Operand, NoMemory>
+fn sum_value(alloc: Global, sum: SumSoFar, term: Operand) -> Result<SumValue, NoMemory>
     ensures { IfOk result (λ v. v ≡ sum_value sum term) }
 {
     match sum {
-        SumSoFar::Empty => Ok(term),
+        SumSoFar::Empty => Ok(SumValue::of(alloc, term)),
         SumSoFar::Negative => match term {
-            Ok(value) => Ok(Ok(negative_of(alloc, &value)?)),
-            Err(fault) => Ok(Err(fault)),
+            Ok(value) => Ok(SumValue::of(alloc, Ok(negative_of(alloc, &value)?))),
+            Err(fault) => Ok(SumValue::of(alloc, Err(fault))),
         },
-        SumSoFar::Plus(left, at) => combined(alloc, Operator::Plus, at, left, term),
-        SumSoFar::Minus(left, at) => combined(alloc, Operator::Minus, at, left, term),
+        SumSoFar::Plus(left, at) => left.plus(alloc, term, at),
+        SumSoFar::Minus(left, at) => left.minus(alloc, term, at),
     }
+}
+
+// The value of a sum up to this factor, where it goes on.
+fn level_sum(alloc: Global, level: OpenSum, factor: Operand) -> Result<SumValue, NoMemory>
+    ensures { IfOk result (λ v. v ≡ level_value level factor) }
+{
+    let OpenSum { sum, product } = level;
+    let term = product_value(alloc, product, factor)?;
+    sum_value(alloc, sum, term)
 }
 
 // The value of a sum that ends behind this factor.
 fn level_value(alloc: Global, level: OpenSum, factor: Operand) -> Result<Operand, NoMemory>
     ensures { IfOk result (λ v. v ≡ level_value level factor) }
 {
-    let OpenSum { sum, product } = level;
-    let term = product_value(alloc, product, factor)?;
-    sum_value(alloc, sum, term)
+    let sum = level_sum(alloc, level, factor)?;
+    sum.value(alloc)
 }
 
 // The value of a name.
@@ -228,11 +228,11 @@ fn read_factor(
             OpenSum { sum, product }
         }
         Symbol::Plus => OpenSum {
-            sum: SumSoFar::Plus(level_value(alloc, level, value)?, at),
+            sum: SumSoFar::Plus(level_sum(alloc, level, value)?, at),
             product: ProductSoFar::Empty,
         },
         Symbol::Minus => OpenSum {
-            sum: SumSoFar::Minus(level_value(alloc, level, value)?, at),
+            sum: SumSoFar::Minus(level_sum(alloc, level, value)?, at),
             product: ProductSoFar::Empty,
         },
         Symbol::Close => return read_closed(level_value(alloc, level, value)?, outer, at),

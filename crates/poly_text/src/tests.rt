@@ -14,15 +14,17 @@ fn terms_of(alloc: Global, poly: &Poly) -> Result<Vec<(u32, u16, u16)>, Fail> {
     Ok(terms)
 }
 
-// The fault of a text in two variables, or the number of terms.
+// The fault of a text in n variables, or the number of terms.
 fn fault_of(
     rt: &impl Abort,
     alloc: Global,
     text: &str,
+    n: u8,
     numbers: &Numbers,
 ) -> Result<usize, TextFault> {
     assert!(rt; text.len() < 1000);
-    let poly = parse_poly(alloc, text, 2, numbers)?;
+    assert!(rt; n <= 9);
+    let poly = parse_poly(alloc, text, n, numbers)?;
     Ok(poly.terms().len())
 }
 
@@ -106,7 +108,7 @@ fn texts_have_their_first_fault(rt: HostRuntime) -> Result<(), Fail> {
     ];
     for (text, fault) in faults {
         assert_eq!(rt;
-            fault_of(&rt, rt.alloc(), text, &numbers),
+            fault_of(&rt, rt.alloc(), text, 2, &numbers),
             Err(fault),
             "at {text}"
         );
@@ -123,4 +125,37 @@ fn a_value_has_few_terms(rt: HostRuntime) -> Result<(), Fail> {
         Err(fault) => assert_eq!(rt; fault, TextFault::TermsOver { at: 30 }),
     }
     Ok(())
+}
+
+// The power has 11,440 terms, none of which stands in the power times z1^8.
+#[test]
+fn a_sum_has_few_terms(rt: HostRuntime) -> Result<(), Fail> {
+    let numbers = Numbers::empty(rt.alloc());
+    let sums = [
+        (
+            "z1+(z1+z2+z3+z4+z5+z6+z7+z8+z9+1)^7-z1^8+(z1+z2+z3+z4+z5+z6+z7+z8+z9+1)^7-1",
+            Ok(11441),
+        ),
+        (
+            "z2^9-1+(z1+z2+z3+z4+z5+z6+z7+z8+z9+1)^7+z1^8*(z1+z2+z3+z4+z5+z6+z7+z8+z9+1)^7",
+            Err(TextFault::TermsOver { at: 39 }),
+        ),
+    ];
+    for (text, answer) in sums {
+        assert_eq!(rt;
+            fault_of(&rt, rt.alloc(), text, 9, &numbers),
+            answer,
+            "at {text}"
+        );
+    }
+    Ok(())
+}
+
+#[test]
+fn the_limits_are_those_of_the_format(rt: HostRuntime) {
+    assert_eq!(rt; NAME_LIMIT, 32);
+    assert_eq!(rt; POWER_LIMIT, 20);
+    assert_eq!(rt; DEPTH_LIMIT, 64);
+    assert_eq!(rt; DEGREE_LIMIT, 24);
+    assert_eq!(rt; TERM_LIMIT, 20_000);
 }

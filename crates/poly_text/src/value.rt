@@ -4,21 +4,17 @@ ghost use Rattle.std.specs.Prelude.{◌≡◌, [], ◌∷◌, ◌+◌, ◌≤◌
 ghost use Rattle.ibp_algebra.specs.FormalSum.{IsCanonical, normal_form, scale};
 ghost use Rattle.ibp_algebra.specs.Exponents.{deg_rev_lex};
 ghost use Rattle.ibp_algebra.specs.Polynomial.{SamePolynomial, multiply, degree_of};
-ghost use Rattle.poly_text.specs.Value.{constant, within_terms, sum_of, difference_of, product_of, quotient_of, negative_of, power_of};
+ghost use Rattle.mono_order.specs.declared.limits.TheConstants.{MONO_DEGREE};
+ghost use Rattle.poly_text.specs.Value.{constant, within_terms, sum_of, product_of, quotient_of, negative_of, power_of};
 
 use crate::fault::TextFault;
+use crate::limits::{DEGREE_LIMIT, TERM_LIMIT};
 use crate::reader::Operand;
 use ibp_base::NoMemory;
 use ibp_field::Residue;
 use mono_order::Monomial;
 use sparse_poly::{Poly, PolyFault};
 use std::alloc::Global;
-
-/// The greatest degree of a product in a text.
-const DEGREE_LIMIT: u16 = 24;
-
-/// The greatest number of terms of a value.
-const TERM_LIMIT: usize = 20_000;
 
 /// A number as a polynomial.
 pub fn constant(alloc: Global, number: Residue) -> Result<Poly, NoMemory>
@@ -52,8 +48,8 @@ fn scaled(alloc: Global, f: &Poly, by: Residue) -> Result<Poly, NoMemory>
     f.scale(alloc, by)
 }
 
-// The sum of two polynomials.
-fn added(alloc: Global, f: &Poly, g: &Poly) -> Result<Poly, NoMemory>
+/// The sum of two polynomials.
+pub fn added(alloc: Global, f: &Poly, g: &Poly) -> Result<Poly, NoMemory>
     ensures { IfOk result (λ p. p ≡ normal_form deg_rev_lex (f.now ++ g.now)) }
 {
     f.add(alloc, g)
@@ -61,7 +57,7 @@ fn added(alloc: Global, f: &Poly, g: &Poly) -> Result<Poly, NoMemory>
 
 // The product of two polynomials of small degree.
 fn multiplied(alloc: Global, f: &Poly, g: &Poly) -> Result<Poly, NoMemory>
-    requires { degree_of f.now + degree_of g.now ≤ 300 }
+    requires { degree_of f.now + degree_of g.now ≤ MONO_DEGREE }
     ensures { IfOk result (λ p. p ≡ normal_form deg_rev_lex (multiply f.now g.now)) }
 {
     match f.mul(alloc, g) {
@@ -83,14 +79,6 @@ pub fn sum_of(alloc: Global, f: &Poly, g: &Poly, at: u32) -> Result<Operand, NoM
     ensures { IfOk result (λ v. v ≡ sum_of at f.now g.now) }
 {
     Ok(within_terms(added(alloc, f, g)?, at))
-}
-
-/// A difference, under the limit on terms.
-pub fn difference_of(alloc: Global, f: &Poly, g: &Poly, at: u32) -> Result<Operand, NoMemory>
-    ensures { IfOk result (λ v. v ≡ difference_of at f.now g.now) }
-{
-    let opposite = negative_of(alloc, g)?;
-    Ok(within_terms(added(alloc, f, &opposite)?, at))
 }
 
 /// A product, under the limits on the degree and on terms.

@@ -1,7 +1,5 @@
-use Rattle.std.proofs.Common.{◌+◌, ◌-◌, ◌≤◌, ◌≡◌, length, drop, take, refl, sym, ap, ◌∙◌, arith, length-drop}
+use Rattle.std.proofs.Common.{◌+◌, ◌-◌, length, take, refl, sym, ap, ◌∙◌, arith, length-drop}
 use Rattle.std.proofs.lemmas.Result.{err_from_is_err_and}
-use Rattle.poly_text.specs.Token.{token_of}
-use Rattle.poly_text.specs.Symbols.{symbol_for}
 use Rattle.poly_text.specs.PolyText.{value_in}
 use Rattle.poly_text.specs.Reading.{reading_of}
 use Rattle.poly_text.proofs.Steps.{scan_token, scan_fault, sliced}

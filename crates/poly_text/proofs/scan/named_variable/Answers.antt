@@ -1,4 +1,4 @@
-use Rattle.poly_text.proofs.Scanning.{variable_long, variable_found, variable_missing}
+use Rattle.poly_text.proofs.Scanning.{variable_long}
 use Rattle.poly_text.proofs.scan.named_variable.Goals as goal
 
 pub returns-then-word-ne2 : goal.returns-then-word-ne2

@@ -1,4 +1,4 @@
-use Rattle.std.proofs.Common.{sym, ap, subst, ◌∙◌, ◌≤◌, arith}
+use Rattle.std.proofs.Common.{ap, ◌∙◌, ◌≤◌, arith}
 use Rattle.std.specs.Prelude.{slice_get}
 use Rattle.ibp_algebra.specs.Polynomial.{degree_of}
 use Rattle.poly_text.proofs.Values.{quotient_is}
