@@ -1,19 +1,17 @@
 -- What a file is accepted with is within the limits.
-use Rattle.std.proofs.Common.{◌≡◌, ◌≢◌, ℕ, zero, suc, ◌+◌, ◌-◌, ◌*◌, ◌/◌, ◌<◌, ◌≤◌, ◌^◌, Bool, true, false, cond, not, ◌&&◌, List, [], ◌∷◌, ◌++◌, length, sum, map, replicate, Result, Ok, Err, Option, Some, None, IsSome, refl, sym, ap, ◌∙◌, subst, arith, length-append, inl, inr}
-use Rattle.std.specs.Prelude.{ℤ, nat_lt, nat_le, ◌==◌, slice_index_or}
+use Rattle.std.proofs.Common.{◌≡◌, ◌≢◌, ℕ, zero, suc, ◌+◌, ◌-◌, ◌*◌, ◌/◌, ◌<◌, ◌≤◌, ◌^◌, ◌&&◌, List, [], ◌∷◌, ◌++◌, length, sum, replicate, Result, Ok, Err, Option, Some, None, IsSome, refl, ◌∙◌, subst, arith, length-append}
+use Rattle.std.specs.Prelude.{nat_lt, nat_le, ◌==◌, slice_index_or}
 use Rattle.std.specs.List.{All, AllByRecursion}
 use Rattle.std.specs.Option.{ForSome}
 use Rattle.std.proofs.lemmas.Bool.Decides.{nat_tests}
 use Rattle.std.proofs.lemmas.List.{length-replicate}
 use Rattle.toml.specs.Data.{Data}
-use Rattle.ibp_field.specs.Arithmetic.{int_mod}
-use Rattle.ibp_algebra.specs.Exponents.{deg_rev_lex}
-use Rattle.ibp_algebra.specs.FormalSum.{FormalSum, AllKeys, normal_form}
+use Rattle.ibp_algebra.specs.FormalSum.{AllKeys}
 use Rattle.ibp_algebra.specs.Polynomial.{Polynomial}
+use Rattle.mono_order.specs.declared.limits.TheConstants.{VARIABLES}
 use Rattle.poly_text.specs.declared.fault.TextFault.{TextFault}
 use Rattle.poly_text.specs.PolyText.{NumbersValue, value_in, text_answer}
-use Rattle.poly_text.specs.Value.{is_zero}
-use Rattle.sector_lattice.specs.declared.sector.Sector.{Sector}
+use Rattle.family_file.specs.declared.limits.TheConstants.{FILE_DEGREE}
 use Rattle.family_file.specs.declared.fault.FileFault.{FileFault}
 use Rattle.family_file.specs.declared.fault.FileFault.TheVariants as faults
 use Rattle.family_file.specs.declared.need.Need.{Need}
@@ -22,16 +20,16 @@ use Rattle.family_file.specs.declared.parts.Bounds.{Bounds}
 use Rattle.family_file.specs.declared.parts.Budget.{Budget}
 use Rattle.family_file.specs.declared.parts.Probe.{Probe}
 use Rattle.family_file.specs.Need.{needs_probe}
-use Rattle.family_file.specs.Reading.{◌>>=◌, collect}
+use Rattle.family_file.specs.Reading.{collect}
 use Rattle.family_file.specs.Table.{PolynomialData, polynomial_text, term_list, polynomial_of}
 use Rattle.family_file.specs.Numbers.{natural}
 use Rattle.family_file.specs.Document.{HeaderKeys, BodyKeys, BoundsKeys, BudgetKeys, ProbeKeys, DocumentKeys, document_keys}
-use Rattle.family_file.specs.Shapes.{HasVariables, IsPolynomial, IsField, ArePowers}
+use Rattle.family_file.specs.Shapes.{HasVariables, IsPolynomial}
 use Rattle.family_file.specs.Limits.{BoundsWithin, BudgetWithin, IsProbe, FamilyLimits}
 use Rattle.family_file.specs.Arrays.{integer_in, list_in, powers_from, targets_of, zero_sectors_of}
 use Rattle.family_file.specs.Polynomials.{or_fault, text_in, residue_in, numbers_of, exponent_in, term_from, term_in, terms_of, polynomial_in, polynomial_value, field_of}
 use Rattle.family_file.specs.Accepted.{DataWithin, MeetsNeed}
-use Rattle.family_file.specs.Family.{ShapeData, BodyData, FamilyData, table_of_bytes, header_of, shape_of, gamma_of, unless_zero, bounds_of, budget_of, probe_of, needed_probe, sector_check, baikov_of, body_of, family_of_keys, family_of}
+use Rattle.family_file.specs.Family.{ShapeData, BodyData, FamilyData, table_of_bytes, header_of, shape_of, unless_zero, bounds_of, budget_of, probe_of, needed_probe, sector_check, baikov_of, body_of, family_of_keys, family_of}
 use Rattle.family_file.proofs.Binds.{bind_ok, if_ok, unless_ok, where_ok, ok_is, both_are, natural_within, collect_each, collect_length, All-each}
 use Rattle.family_file.proofs.TargetLimits.{powers_are, targets_are, AreTargets}
 use Rattle.family_file.proofs.SectorLimits.{zero_sectors_are, AreZeroSectors}
@@ -45,41 +43,41 @@ or_fault_read : (n : ℕ) (fault : FileFault) (r : Result Polynomial TextFault) 
 or_fault_read n fault (Ok q) p each e = subst (IsRead n) (ok_is q p e) (each q refl)
 or_fault_read n fault (Err f) p each e = absurd (cc)
 
-text_in_read : (n : ℕ) → n ≤ 9 → (fault : FileFault) (numbers : NumbersValue) (text : List ℕ) (p : Polynomial) → text_in fault n numbers text ≡ Ok p → IsRead n p
+text_in_read : (n : ℕ) → n ≤ VARIABLES → (fault : FileFault) (numbers : NumbersValue) (text : List ℕ) (p : Polynomial) → text_in fault n numbers text ≡ Ok p → IsRead n p
 unfolding text_in
 text_in_read n most fault numbers text p e = or_fault_read n fault (text_answer n (value_in numbers) text) p (text_read n most (value_in numbers) text) e
 
 pub record IsReadTerm (n : ℕ) (term : List ℕ × ℕ) : Type 0 where
   pub variables : HasVariables n term.0
-  pub small : sum term.0 ≤ 24
+  pub small : sum term.0 ≤ FILE_DEGREE
 
-pub padded_length : (n : ℕ) (exponents : List ℕ) → length exponents ≡ n → n ≤ 9 → length (exponents ++ replicate (9 - n) 0) ≡ 9
-padded_length n exponents h most = omega (arith, length-append exponents (replicate (9 - n) 0), length-replicate {A = ℕ} (9 - n) 0, h, most)
+pub padded_length : (n : ℕ) (exponents : List ℕ) → length exponents ≡ n → n ≤ VARIABLES → length (exponents ++ replicate (VARIABLES - n) 0) ≡ VARIABLES
+padded_length n exponents h most = omega (arith, length-append exponents (replicate (VARIABLES - n) 0), length-replicate {A = ℕ} (VARIABLES - n) 0, h, most)
 
 padded_at : (k : ℕ) (exponents : List ℕ) (i : ℕ) → length exponents ≤ i → slice_index_or (exponents ++ replicate k 0) i 0 ≡ 0
 padded_at k [] i h = zeros_at k i
 padded_at k (x ∷ exponents) zero h = absurd (omega (arith, h))
 padded_at k (x ∷ exponents) (suc i) h = padded_at k exponents i (omega (arith, h))
 
-term_is : (fault : FileFault) (n : ℕ) → n ≤ 9 → (ds : List Data) (term : List ℕ × ℕ) → term_from fault n ds ≡ Ok term → IsReadTerm n term
+term_is : (fault : FileFault) (n : ℕ) → n ≤ VARIABLES → (ds : List Data) (term : List ℕ × ℕ) → term_from fault n ds ≡ Ok term → IsReadTerm n term
 unfolding term_from
 term_is fault n most [] term e = absurd (cc)
 term_is fault n most (first ∷ others) term e =
     let coefficient = bind_ok (integer_in fault first) _ term e in
     let exponents = bind_ok (collect (exponent_in fault) others) _ term coefficient.1.1 in
-    let made = if_ok (length exponents.0 == n && nat_le (sum exponents.0) 24) _ term fault exponents.1.1 in
-    let sides = both_are (length exponents.0 == n) (nat_le (sum exponents.0) 24) made.0 in
+    let made = if_ok (length exponents.0 == n && nat_le (sum exponents.0) FILE_DEGREE) _ term fault exponents.1.1 in
+    let sides = both_are (length exponents.0 == n) (nat_le (sum exponents.0) FILE_DEGREE) made.0 in
     let many : length exponents.0 ≡ n = grind (arith, nat_tests, sides.0) in
-    let small : sum exponents.0 ≤ 24 = grind (arith, nat_tests, sides.1) in
+    let small : sum exponents.0 ≤ FILE_DEGREE = grind (arith, nat_tests, sides.1) in
     subst (IsReadTerm n) made.1 (record {
       variables = record {
         nine = padded_length n exponents.0 many most;
-        none_beyond = λ i le. padded_at (9 - n) exponents.0 i (omega (arith, many, le));
+        none_beyond = λ i le. padded_at (VARIABLES - n) exponents.0 i (omega (arith, many, le));
       };
-      small = omega (arith, padded_sum (9 - n) exponents.0, small);
+      small = omega (arith, padded_sum (VARIABLES - n) exponents.0, small);
     })
 
-term_in_is : (fault : FileFault) (n : ℕ) → n ≤ 9 → (d : Data) (term : List ℕ × ℕ) → term_in fault n d ≡ Ok term → IsReadTerm n term
+term_in_is : (fault : FileFault) (n : ℕ) → n ≤ VARIABLES → (d : Data) (term : List ℕ × ℕ) → term_in fault n d ≡ Ok term → IsReadTerm n term
 unfolding term_in
 term_in_is fault n most d term e =
     let listed = bind_ok (list_in fault d) _ term e in
@@ -93,7 +91,7 @@ each_small : (n : ℕ) (f : Polynomial) → AllByRecursion (IsReadTerm n) f → 
 each_small n [] h = tt
 each_small n (term ∷ f) h = (h.0.small, each_small n f h.1)
 
-terms_read : (n : ℕ) → n ≤ 9 → (fault : FileFault) (ds : List Data) (p : Polynomial) → terms_of fault n ds ≡ Ok p → IsRead n p
+terms_read : (n : ℕ) → n ≤ VARIABLES → (fault : FileFault) (ds : List Data) (p : Polynomial) → terms_of fault n ds ≡ Ok p → IsRead n p
 unfolding terms_of
 terms_read n most fault ds p e =
     let within = unless_ok (nat_lt 20000 (length ds)) _ fault p e in
@@ -103,11 +101,11 @@ terms_read n most fault ds p e =
     let few : length ds ≤ 20000 = grind (arith, nat_tests, within.0) in
     subst (IsRead n) (ok_is _ p read.1.1) (read_normal n read.0 (each_variables n read.0 each) (each_small n read.0 each) (omega (arith, normal_form_length read.0, many, few)))
 
-polynomial_read : (n : ℕ) → n ≤ 9 → (fault : FileFault) (numbers : NumbersValue) (key : PolynomialData) (p : Polynomial) → polynomial_in fault n numbers key ≡ Ok p → IsRead n p
+polynomial_read : (n : ℕ) → n ≤ VARIABLES → (fault : FileFault) (numbers : NumbersValue) (key : PolynomialData) (p : Polynomial) → polynomial_in fault n numbers key ≡ Ok p → IsRead n p
 polynomial_read n most fault numbers (polynomial_text text) p e = text_in_read n most fault numbers text p e
 polynomial_read n most fault numbers (term_list ds) p e = terms_read n most fault ds p e
 
-polynomial_value_read : (n : ℕ) → n ≤ 9 → (fault : FileFault) (numbers : NumbersValue) (d : Data) (p : Polynomial) → polynomial_value fault n numbers d ≡ Ok p → IsPolynomial n 24 p
+polynomial_value_read : (n : ℕ) → n ≤ VARIABLES → (fault : FileFault) (numbers : NumbersValue) (d : Data) (p : Polynomial) → polynomial_value fault n numbers d ≡ Ok p → IsPolynomial n FILE_DEGREE p
 unfolding polynomial_value
 polynomial_value_read n most fault numbers d p e =
     let key = bind_ok (polynomial_of fault d) _ p e in
@@ -115,31 +113,31 @@ polynomial_value_read n most fault numbers d p e =
 
 pub record IsReadField (n : ℕ) (a : List Polynomial) : Type 0 where
   pub count : length a ≡ n
-  pub polynomials : All (IsPolynomial n 24) a
+  pub polynomials : All (IsPolynomial n FILE_DEGREE) a
 
-field_read : (n : ℕ) → n ≤ 9 → (fault : FileFault) (numbers : NumbersValue) (ds : List Data) (a : List Polynomial) → field_of fault n numbers ds ≡ Ok a → IsReadField n a
+field_read : (n : ℕ) → n ≤ VARIABLES → (fault : FileFault) (numbers : NumbersValue) (ds : List Data) (a : List Polynomial) → field_of fault n numbers ds ≡ Ok a → IsReadField n a
 unfolding field_of
 field_read n most fault numbers ds a e =
     let read = where_ok (length ds == n) (collect (polynomial_value fault n numbers) ds) fault a e in
     let many : length ds ≡ n = grind (arith, nat_tests, read.0) in
     record {
       count = collect_length (polynomial_value fault n numbers) ds a read.1 ∙ many;
-      polynomials = All-each (IsPolynomial n 24) a (collect_each (IsPolynomial n 24) (polynomial_value fault n numbers) (polynomial_value_read n most fault numbers) ds a read.1);
+      polynomials = All-each (IsPolynomial n FILE_DEGREE) a (collect_each (IsPolynomial n FILE_DEGREE) (polynomial_value fault n numbers) (polynomial_value_read n most fault numbers) ds a read.1);
     }
 
 -- ---- the parts
 
 pub record IsShape (shape : ShapeData) : Type 0 where
   pub some : 1 ≤ shape.variables
-  pub few : shape.variables ≤ 9
+  pub few : shape.variables ≤ VARIABLES
 
 shape_is : (header : HeaderKeys) (shape : ShapeData) → shape_of header ≡ Ok shape → IsShape shape
 unfolding shape_of
 shape_is header shape e =
     let loops = bind_ok (natural faults.Shape 1 3 header.loops) _ shape e in
     let legs = bind_ok (natural faults.Shape 0 8 header.legs) _ shape loops.1.1 in
-    let variables = bind_ok (natural faults.Shape 1 9 header.variables) _ shape legs.1.1 in
-    let sides = natural_within faults.Shape 1 9 header.variables variables.0 variables.1.0 in
+    let variables = bind_ok (natural faults.Shape 1 VARIABLES header.variables) _ shape legs.1.1 in
+    let sides = natural_within faults.Shape 1 VARIABLES header.variables variables.0 variables.1.0 in
     let made = if_ok (variables.0 == loops.0 * (loops.0 + 1) / 2 + loops.0 * legs.0) _ shape faults.Shape variables.1.1 in
     subst IsShape made.1 (record { some = sides.0; few = sides.1 })
 
@@ -167,7 +165,7 @@ budget_is keys budget e =
       candidates = (natural_within faults.Budget 0 20000 keys.candidates candidates.0 candidates.1.0).1;
     })
 
-probe_is : (n : ℕ) → n ≤ 9 → (numbers : NumbersValue) (keys : ProbeKeys) (probe : Probe) → probe_of n numbers keys ≡ Ok probe → IsProbe n probe
+probe_is : (n : ℕ) → n ≤ VARIABLES → (numbers : NumbersValue) (keys : ProbeKeys) (probe : Probe) → probe_of n numbers keys ≡ Ok probe → IsProbe n probe
 unfolding probe_of
 probe_is n most numbers keys probe e =
     let a = bind_ok (field_of faults.Probe n numbers keys.field) _ probe e in
@@ -179,7 +177,7 @@ probe_is n most numbers keys probe e =
       seed = powers_are faults.Probe n keys.seed seed.0 seed.1.0;
     })
 
-needed_probe_is : (need : Need) (n : ℕ) → n ≤ 9 → (numbers : NumbersValue) (keys : Option ProbeKeys) (probe : Option Probe) → needed_probe need n numbers keys ≡ Ok probe → ForSome probe (IsProbe n)
+needed_probe_is : (need : Need) (n : ℕ) → n ≤ VARIABLES → (numbers : NumbersValue) (keys : Option ProbeKeys) (probe : Option Probe) → needed_probe need n numbers keys ≡ Ok probe → ForSome probe (IsProbe n)
 unfolding needed_probe
 needed_probe_is need n most numbers None probe e =
     let made = unless_ok (needs_probe need) (Ok None) faults.Probe probe e in
@@ -202,7 +200,7 @@ unless_zero_is : (p q : Polynomial) → unless_zero p ≡ Ok q → p ≡ q
 unless_zero_is [] q e = absurd (cc)
 unless_zero_is (term ∷ p) q e = ok_is _ q e
 
-baikov_is : (n : ℕ) → n ≤ 9 → (numbers : NumbersValue) (keys : BodyKeys) (p : Polynomial) → baikov_of n numbers keys ≡ Ok p → IsBaikov n p
+baikov_is : (n : ℕ) → n ≤ VARIABLES → (numbers : NumbersValue) (keys : BodyKeys) (p : Polynomial) → baikov_of n numbers keys ≡ Ok p → IsBaikov n p
 unfolding baikov_of
 baikov_is n most numbers keys p e =
     let read = bind_ok (polynomial_in faults.Baikov n numbers keys.baikov) _ p e in
@@ -216,7 +214,7 @@ pub record IsBody (n : ℕ) (body : BodyData) : Type 0 where
   pub zero : AreZeroSectors n body.zero
   pub targets : AreTargets n body.targets
 
-body_is : (n : ℕ) → n ≤ 9 → (keys : BodyKeys) (body : BodyData) → body_of n keys ≡ Ok body → IsBody n body
+body_is : (n : ℕ) → n ≤ VARIABLES → (keys : BodyKeys) (body : BodyData) → body_of n keys ≡ Ok body → IsBody n body
 unfolding body_of
 body_is n most keys body e =
     let dimension = bind_ok (residue_in faults.Number keys.dimension) _ body e in
@@ -231,7 +229,7 @@ body_is n most keys body e =
     })
 
 -- the limits, put together
-pub limits_of : (n : ℕ) (body : BodyData) (bounds : Bounds) (budget : Budget) (probe : Option Probe) → 1 ≤ n → n ≤ 9 → IsBody n body → BoundsWithin bounds → BudgetWithin budget → ForSome probe (IsProbe n)
+pub limits_of : (n : ℕ) (body : BodyData) (bounds : Bounds) (budget : Budget) (probe : Option Probe) → 1 ≤ n → n ≤ VARIABLES → IsBody n body → BoundsWithin bounds → BudgetWithin budget → ForSome probe (IsProbe n)
     → FamilyLimits n body.baikov body.targets body.zero bounds budget probe
 limits_of n body bounds budget probe some few h bounds_within budget_within probe_fits = record {
   some_variables = some;
@@ -249,7 +247,7 @@ limits_of n body bounds budget probe some few h bounds_within budget_within prob
   probe_fits = probe_fits;
 }
 
-pub keys_within : (n : ℕ) → 1 ≤ n → n ≤ 9 → (need : Need) (keys : DocumentKeys) (body : BodyData) (bounds : Bounds) (budget : Budget) (probe : Option Probe) → body_of n keys.body ≡ Ok body → bounds_of keys.bounds ≡ Ok bounds → budget_of keys.budget ≡ Ok budget
+pub keys_within : (n : ℕ) → 1 ≤ n → n ≤ VARIABLES → (need : Need) (keys : DocumentKeys) (body : BodyData) (bounds : Bounds) (budget : Budget) (probe : Option Probe) → body_of n keys.body ≡ Ok body → bounds_of keys.bounds ≡ Ok bounds → budget_of keys.budget ≡ Ok budget
     → needed_probe need n body.numbers keys.probe ≡ Ok probe → FamilyLimits n body.baikov body.targets body.zero bounds budget probe
 keys_within n some few need keys body bounds budget probe a b c d =
     limits_of n body bounds budget probe some few (body_is n few keys.body body a) (bounds_are keys.bounds bounds b) (budget_is keys.budget budget c) (needed_probe_is need n few body.numbers keys.probe probe d)

@@ -1,5 +1,4 @@
 pub mod Places
-pub mod Subsectors
 pub mod Keys
 pub mod Lists
 pub mod Collect
@@ -8,8 +7,10 @@ pub mod Toml
 pub mod Front
 pub mod Binds
 pub mod TargetLimits
+pub mod TargetMembers
 pub mod SectorLimits
 pub mod PolynomialLimits
 pub mod TextLimits
 pub mod Filling
 pub mod FamilyLimits
+pub mod SameFamily

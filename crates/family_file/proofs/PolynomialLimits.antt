@@ -1,14 +1,12 @@
 -- Polynomials that are read are within their limits.
-use Rattle.std.proofs.Common.{◌≡◌, ◌≢◌, ℕ, zero, suc, ◌+◌, ◌-◌, ◌*◌, ◌<◌, ◌≤◌, Bool, true, false, cond, not, ◌&&◌, List, [], ◌∷◌, ◌++◌, length, sum, map, replicate, Result, Ok, Err, Option, Some, None, refl, sym, ap, ◌∙◌, subst, arith, length-append, inl, inr, ◌%◌}
-use Rattle.std.specs.Prelude.{nat_lt, nat_le, ◌==◌, slice_set, slice_index_or, is_some, option_map}
-use Rattle.std.specs.List.{All, AllByRecursion}
-use Rattle.std.proofs.lemmas.Bool.{cases_Bool}
-use Rattle.std.proofs.lemmas.List.{length-map, length-set, get_or-set_other}
+use Rattle.std.proofs.Common.{◌≡◌, ℕ, zero, suc, ◌+◌, ◌*◌, ◌≤◌, true, false, cond, not, ◌&&◌, List, [], ◌∷◌, ◌++◌, length, sum, replicate, Result, Ok, Err, Option, Some, None, refl, ◌∙◌, subst, arith, ◌%◌}
+use Rattle.std.specs.Prelude.{nat_lt, ◌==◌, slice_index_or}
+use Rattle.std.proofs.lemmas.List.{length-map}
 use Rattle.std.specs.declared.cmp.Ordering.{Ordering}
 use Rattle.std.specs.declared.cmp.Ordering.TheVariants.{Less, Equal, Greater}
 use Rattle.ibp_field.specs.Arithmetic.{inverse_mod}
 use Rattle.ibp_algebra.proofs.ExponentLaws.{length-padded_sum, get_or-padded_sum}
-use Rattle.ibp_algebra.proofs.SumOfExponents.{sum-add_exponents, sum-set}
+use Rattle.ibp_algebra.proofs.SumOfExponents.{sum-add_exponents}
 use Rattle.std.proofs.lemmas.Bool.Decides.{nat_tests}
 use Rattle.ibp_algebra.specs.Exponents.{add_exponents, same_exponents, deg_rev_lex}
 use Rattle.ibp_algebra.specs.ExponentOrder.{exponents_decide, deg_rev_lex_total, deg_rev_lex_unique}
@@ -19,15 +17,17 @@ use Rattle.ibp_algebra.proofs.NormalForm.{SameCoefficients-normal_form, IsCanoni
 use Rattle.ibp_algebra.proofs.Canonical.{same_canonical}
 use Rattle.ibp_algebra.proofs.SumLaws.{SameCoefficients-sym, SameCoefficients-trans}
 use Rattle.ibp_algebra.proofs.ZeroDivisors.{AllKeys-append, AllKeys-scale}
+use Rattle.mono_order.specs.declared.limits.TheConstants.{VARIABLES}
 use Rattle.poly_text.specs.declared.fault.TextFault.{TextFault}
 use Rattle.poly_text.specs.Tree.{Tree}
-use Rattle.poly_text.specs.Value.{constant, variable, constant_term, is_zero, within_terms, sum_of, difference_of, product_of, quotient_of, negative_of, then_value, both_values, power_of, known_value, value}
+use Rattle.poly_text.specs.Value.{constant, constant_term, is_zero, within_terms, sum_of, difference_of, product_of, quotient_of, negative_of, then_value, both_values, power_of, known_value, value}
+use Rattle.family_file.specs.declared.limits.TheConstants.{FILE_DEGREE}
 use Rattle.family_file.specs.Shapes.{HasVariables, IsPolynomial}
-use Rattle.family_file.proofs.Binds.{if_ok, unless_ok, ok_is}
+use Rattle.family_file.proofs.Binds.{unless_ok, ok_is}
 
 -- a polynomial of a file
 pub record IsRead (n : ℕ) (p : Polynomial) : Type 0 where
-  pub polynomial : IsPolynomial n 24 p
+  pub polynomial : IsPolynomial n FILE_DEGREE p
   pub few : length p ≤ 20000
 
 -- ---- lengths
@@ -59,7 +59,7 @@ scale_length c f = length-map f (λ term. (term.0, c * term.1))
 -- ---- keys
 
 abbrev pub Small : List ℕ → Type 0
-Small m = sum m ≤ 24
+Small m = sum m ≤ FILE_DEGREE
 
 times_keys : (P Q R : List ℕ → Type 0) → ((a b : List ℕ) → P a → Q b → R (add_exponents a b)) → (k : List ℕ) (c : ℕ) (g : Polynomial) → P k → AllKeys Q g → AllKeys R (times_term add_exponents (k, c) g)
 times_keys P Q R both k c [] p h = tt
@@ -72,7 +72,7 @@ product_keys P Q R both (t ∷ f) g h k =
 
 joined_variables : (n : ℕ) (a b : List ℕ) → HasVariables n a → HasVariables n b → HasVariables n (add_exponents a b)
 joined_variables n a b h k = record {
-  nine = length-padded_sum ◌+◌ 9 a b h.nine k.nine;
+  nine = length-padded_sum ◌+◌ VARIABLES a b h.nine k.nine;
   none_beyond = λ i le.
       get_or-padded_sum ◌+◌ 0 (λ x. omega arith) (λ x. omega arith) a b i
       ∙ (λ j. h.none_beyond i le j + k.none_beyond i le j);
@@ -82,14 +82,14 @@ nothing_left : (f : Polynomial) → AllKeys Small (multiply f [])
 nothing_left [] = tt
 nothing_left (t ∷ f) = nothing_left f
 
-joined_degrees : (d e : ℕ) → d + e ≤ 24 → (a b : List ℕ) → sum a ≤ d → sum b ≤ e → Small (add_exponents a b)
+joined_degrees : (d e : ℕ) → d + e ≤ FILE_DEGREE → (a b : List ℕ) → sum a ≤ d → sum b ≤ e → Small (add_exponents a b)
 joined_degrees d e fits a b h k = omega (arith, sum-add_exponents a b)
 
-product_small : (f g : Polynomial) → (not (is_zero f) && not (is_zero g) && nat_lt 24 (degree_of f + degree_of g)) ≡ false → AllKeys Small (multiply f g)
+product_small : (f g : Polynomial) → (not (is_zero f) && not (is_zero g) && nat_lt FILE_DEGREE (degree_of f + degree_of g)) ≡ false → AllKeys Small (multiply f g)
 product_small [] g h = tt
 product_small (t ∷ f) [] h = nothing_left (t ∷ f)
 product_small (t ∷ f) (u ∷ g) h =
-    let fits : degree_of (t ∷ f) + degree_of (u ∷ g) ≤ 24 = grind (arith, nat_tests, h) in
+    let fits : degree_of (t ∷ f) + degree_of (u ∷ g) ≤ FILE_DEGREE = grind (arith, nat_tests, h) in
     product_keys (λ m. sum m ≤ degree_of (t ∷ f)) (λ m. sum m ≤ degree_of (u ∷ g)) Small (joined_degrees (degree_of (t ∷ f)) (degree_of (u ∷ g)) fits) (t ∷ f) (u ∷ g) (AllKeys-degree_of (t ∷ f)) (AllKeys-degree_of (u ∷ g))
 
 -- ---- values
@@ -128,7 +128,7 @@ read_difference n at f g p h k e =
 
 read_product : (n at : ℕ) (f g p : Polynomial) → IsRead n f → IsRead n g → product_of at f g ≡ Ok p → IsRead n p
 read_product n at f g p h k e =
-    let found = unless_ok (not (is_zero f) && not (is_zero g) && nat_lt 24 (degree_of f + degree_of g)) (within_terms at (normal_form deg_rev_lex (multiply f g))) (TextFault.DegreeOver at) p e in
+    let found = unless_ok (not (is_zero f) && not (is_zero g) && nat_lt FILE_DEGREE (degree_of f + degree_of g)) (within_terms at (normal_form deg_rev_lex (multiply f g))) (TextFault.DegreeOver at) p e in
     within n at (multiply f g) p
     (product_keys (HasVariables n) (HasVariables n) (HasVariables n) (joined_variables n) f g h.polynomial.variables k.polynomial.variables)
     (product_small f g found.0) found.1
@@ -144,20 +144,20 @@ zeros_at zero i = refl
 zeros_at (suc k) zero = refl
 zeros_at (suc k) (suc i) = zeros_at k i
 
-pub no_exponents : (n : ℕ) → HasVariables n (replicate 9 0)
-no_exponents n = record { nine = refl; none_beyond = λ i le. zeros_at 9 i }
+pub no_exponents : (n : ℕ) → HasVariables n (replicate VARIABLES 0)
+no_exponents n = record { nine = refl; none_beyond = λ i le. zeros_at VARIABLES i }
 
-no_degree : sum (replicate 9 0) ≤ 24
-no_degree = let none : sum (replicate 9 0) ≡ 0 = refl in omega (arith, none)
+no_degree : sum (replicate VARIABLES 0) ≤ FILE_DEGREE
+no_degree = let none : sum (replicate VARIABLES 0) ≡ 0 = refl in omega (arith, none)
 
 pub read_constant : (n c : ℕ) → IsRead n (constant c)
 read_constant n c = record {
   polynomial = record {
-    canonical = IsCanonical-with_term deg_rev_lex (replicate {A = ℕ} 9 0, c) [] tt tt;
-    variables = AllKeys-with_term (HasVariables n) (replicate {A = ℕ} 9 0, c) [] (no_exponents n) tt;
-    degree_within = AllKeys-with_term Small (replicate {A = ℕ} 9 0, c) [] no_degree tt;
+    canonical = IsCanonical-with_term deg_rev_lex (replicate {A = ℕ} VARIABLES 0, c) [] tt tt;
+    variables = AllKeys-with_term (HasVariables n) (replicate {A = ℕ} VARIABLES 0, c) [] (no_exponents n) tt;
+    degree_within = AllKeys-with_term Small (replicate {A = ℕ} VARIABLES 0, c) [] no_degree tt;
   };
-  few = omega (arith, with_term_length (replicate {A = ℕ} 9 0, c) []);
+  few = omega (arith, with_term_length (replicate {A = ℕ} VARIABLES 0, c) []);
 }
 
 after_one : (n : ℕ) (r : Result Polynomial TextFault) (go : Polynomial → Result Polynomial TextFault) (p : Polynomial) → ((f : Polynomial) → r ≡ Ok f → IsRead n f)

@@ -1,15 +1,14 @@
 -- Sectors that are read are below their limit.
-use Rattle.std.proofs.Common.{◌≡◌, ℕ, zero, suc, ◌+◌, ◌*◌, ◌%◌, ◌<◌, ◌≤◌, ◌^◌, Bool, true, false, cond, List, [], ◌∷◌, length, Result, Ok, Err, Option, Some, None, refl, sym, ap, subst, arith, pow-suc}
+use Rattle.std.proofs.Common.{◌≡◌, ℕ, zero, suc, ◌+◌, ◌*◌, ◌%◌, ◌<◌, ◌≤◌, ◌^◌, Bool, true, false, cond, List, [], length, Ok, Option, Some, None, subst, arith, pow-suc}
 use Rattle.std.proofs.Math.Nat.{mod-le}
 use Rattle.std.specs.Prelude.{nat_eq, nat_lt}
 use Rattle.std.specs.List.{All, AllByRecursion, list_any}
 use Rattle.std.proofs.lemmas.Bool.Decides.{nat_tests}
 use Rattle.toml.specs.Data.{Data}
 use Rattle.sector_lattice.specs.declared.sector.Sector.{Sector}
-use Rattle.family_file.specs.declared.fault.FileFault.{FileFault}
 use Rattle.family_file.specs.declared.fault.FileFault.TheVariants.{ZeroSectors}
-use Rattle.family_file.specs.Reading.{◌>>=◌, collect}
-use Rattle.family_file.specs.Arrays.{list_in, place_in, are_distinct, sector_number, sector_of_places, sector_in, zero_sectors_of}
+use Rattle.family_file.specs.Reading.{collect}
+use Rattle.family_file.specs.Arrays.{list_in, place_in, are_distinct, sector_number, sector_in, zero_sectors_of}
 use Rattle.family_file.proofs.Binds.{bind_ok, if_ok, unless_ok, ok_is, collect_each, collect_length, All-each}
 
 digit_fits : (b : Bool) (n m : ℕ) → m < 2 ^ n → m + cond b (2 ^ n) 0 < 2 ^ (suc n)

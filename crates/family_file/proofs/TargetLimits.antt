@@ -1,8 +1,7 @@
 -- Powers and targets that are read are within their limits.
-use Rattle.std.proofs.Common.{◌≡◌, ℕ, zero, suc, ◌+◌, ◌≤◌, Bool, true, false, cond, ◌||◌, List, [], ◌∷◌, ◌++◌, length, Result, Ok, Err, refl, sym, ap, ◌∙◌, arith, length-append, subst, inl, inr}
-use Rattle.std.specs.Prelude.{ℤ, pos, negsuc, int_le, ◌≤ℤ◌, neg_ℤ, nat_lt, ◌==◌}
+use Rattle.std.proofs.Common.{◌≡◌, ℕ, zero, suc, ◌+◌, ◌≤◌, Bool, true, false, cond, ◌||◌, List, [], ◌∷◌, ◌++◌, length, Ok, refl, ◌∙◌, arith, length-append, subst}
+use Rattle.std.specs.Prelude.{ℤ, pos, negsuc, ◌≤ℤ◌, neg_ℤ, nat_lt, ◌==◌}
 use Rattle.std.specs.List.{All, AllByRecursion, IsDistinct, list_any}
-use Rattle.std.specs.Bool.{Decides}
 use Rattle.std.specs.Cmp.{int_eq_equiv}
 use Rattle.std.specs.Cmp.Lexicographic.{lists_equiv}
 use Rattle.std.specs.Int.Signed.{le_z_yes}
@@ -11,10 +10,11 @@ use Rattle.std.proofs.lemmas.Float.{T_from_true}
 use Rattle.std.proofs.lemmas.Bool.Decides.{nat_tests}
 use Rattle.toml.specs.Data.{Data}
 use Rattle.ibp_algebra.specs.Laurent.{power_at, same_powers}
+use Rattle.mono_order.specs.declared.limits.TheConstants.{VARIABLES}
 use Rattle.sector_lattice.specs.Ranges.{InRange}
 use Rattle.family_file.specs.declared.fault.FileFault.{FileFault}
 use Rattle.family_file.specs.declared.fault.FileFault.TheVariants.{Targets}
-use Rattle.family_file.specs.Reading.{◌>>=◌, collect}
+use Rattle.family_file.specs.Reading.{collect}
 use Rattle.family_file.specs.Arrays.{power_in, powers_from, powers_in, integer_in, list_in, with_target, first_seen, targets_of}
 use Rattle.family_file.specs.Shapes.{ArePowers}
 use Rattle.family_file.proofs.Binds.{bind_ok, where_ok, unless_ok, ok_is, whole_within, collect_each, collect_length, All-each}
@@ -59,7 +59,7 @@ high_wide (negsuc m) h = le_z_yes tt
 wide : (z : ℤ) → IsPower z → (neg_ℤ (pos 600) ≤ℤ z) × (z ≤ℤ pos 600)
 wide z h = (low_wide z h.low, high_wide z h.high)
 
-pub powers_in_range : (fault : FileFault) (n : ℕ) (ds : List Data) (zs : List ℤ) → 1 ≤ n → n ≤ 9 → powers_from fault n ds ≡ Ok zs → InRange zs
+pub powers_in_range : (fault : FileFault) (n : ℕ) (ds : List Data) (zs : List ℤ) → 1 ≤ n → n ≤ VARIABLES → powers_from fault n ds ≡ Ok zs → InRange zs
 unfolding powers_from
 powers_in_range fault n ds zs some few h =
     let read = where_ok (length ds == n) (collect (power_in fault) ds) fault zs h in
@@ -130,7 +130,7 @@ pub first_seen_distinct : (seen ts : List (List ℤ)) → IsDistinct same_powers
 first_seen_distinct seen [] h = h
 first_seen_distinct seen (t ∷ ts) h = first_seen_distinct (with_target seen t) ts (seen_distinct seen t h)
 
-nothing_distinct : IsDistinct same_powers []
+pub nothing_distinct : IsDistinct same_powers []
 unfolding IsDistinct
 nothing_distinct = tt
 

@@ -1,35 +1,36 @@
 -- What polynomial texts and term lists stand for is within the limits.
-use Rattle.std.proofs.Common.{◌≡◌, ◌≢◌, ℕ, zero, suc, ◌+◌, ◌-◌, ◌*◌, ◌<◌, ◌≤◌, Bool, true, false, cond, not, ◌&&◌, List, [], ◌∷◌, ◌++◌, length, sum, map, replicate, Result, Ok, Err, Option, Some, None, refl, sym, ap, ◌∙◌, subst, arith, length-append, inl, inr}
-use Rattle.std.specs.Prelude.{nat_lt, nat_le, ◌==◌, slice_set, slice_index_or, is_some, option_map, fold}
-use Rattle.std.specs.List.{All, AllByRecursion, list_all}
+use Rattle.std.proofs.Common.{◌≡◌, ℕ, ◌+◌, ◌-◌, ◌*◌, ◌<◌, ◌≤◌, Bool, true, false, cond, not, ◌&&◌, List, [], ◌∷◌, length, sum, replicate, Result, Ok, Err, Option, Some, None, refl, ◌∙◌, subst, arith}
+use Rattle.std.specs.Prelude.{nat_le, ◌==◌, slice_set, is_some, option_map, fold}
+use Rattle.std.specs.List.{list_all}
 use Rattle.std.specs.Char.{is_ascii_digit}
-use Rattle.std.proofs.lemmas.Bool.{cases_Bool}
 use Rattle.std.proofs.lemmas.Bool.Decides.{nat_tests}
-use Rattle.std.proofs.lemmas.List.{length-set, get_or-set_other, length-replicate}
+use Rattle.std.proofs.lemmas.List.{length-set, get_or-set_other}
 use Rattle.ibp_algebra.specs.Polynomial.{Polynomial}
 use Rattle.ibp_algebra.proofs.SumOfExponents.{sum-set}
+use Rattle.mono_order.specs.declared.limits.TheConstants.{VARIABLES}
 use Rattle.poly_text.specs.declared.fault.TextFault.{TextFault}
 use Rattle.poly_text.specs.Token.{whole_value, tokens}
 use Rattle.poly_text.specs.Tree.{Tree}
 use Rattle.poly_text.specs.Grammar.{tree_of}
 use Rattle.poly_text.specs.PolyText.{is_variable_name, variable_named, names_of, tree_value, text_answer}
-use Rattle.poly_text.specs.Value.{constant, variable, value}
+use Rattle.poly_text.specs.Value.{constant, variable}
+use Rattle.family_file.specs.declared.limits.TheConstants.{FILE_DEGREE}
 use Rattle.family_file.specs.Shapes.{HasVariables}
 use Rattle.family_file.proofs.Binds.{both_are}
 use Rattle.family_file.proofs.PolynomialLimits.{IsRead, no_exponents, read_constant, NamesAre, value_read}
 
-variable_exponents : (n k : ℕ) → k < n → n ≤ 9 → HasVariables n (slice_set (replicate 9 0) k 1)
+variable_exponents : (n k : ℕ) → k < n → n ≤ VARIABLES → HasVariables n (slice_set (replicate VARIABLES 0) k 1)
 variable_exponents n k below few = record {
-  nine = length-set (replicate 9 0) k 1;
-  none_beyond = λ i le. get_or-set_other (replicate 9 0) k i 1 0 (λ same. omega (arith, below, le, same)) ∙ (no_exponents n).none_beyond i le;
+  nine = length-set (replicate VARIABLES 0) k 1;
+  none_beyond = λ i le. get_or-set_other (replicate VARIABLES 0) k i 1 0 (λ same. omega (arith, below, le, same)) ∙ (no_exponents n).none_beyond i le;
 }
 
-variable_degree : (k : ℕ) → k < 9 → sum (slice_set (replicate 9 0) k 1) ≤ 24
+variable_degree : (k : ℕ) → k < VARIABLES → sum (slice_set (replicate VARIABLES 0) k 1) ≤ FILE_DEGREE
 variable_degree k below =
-    let none : sum (replicate 9 0) ≡ 0 = refl in
-    omega (arith, sum-set (replicate 9 0) k 1 below, none)
+    let none : sum (replicate VARIABLES 0) ≡ 0 = refl in
+    omega (arith, sum-set (replicate VARIABLES 0) k 1 below, none)
 
-variable_read : (n i : ℕ) → 1 ≤ i → i ≤ n → n ≤ 9 → IsRead n (variable i)
+variable_read : (n i : ℕ) → 1 ≤ i → i ≤ n → n ≤ VARIABLES → IsRead n (variable i)
 variable_read n i some few most = record {
   polynomial = record {
     canonical = (omega arith, omega arith, tt, tt);
@@ -56,7 +57,7 @@ some_is : {A : Type 0} (test : Bool) (x y : A) → cond test (Some x) None ≡ S
 some_is true x y h = (refl, cc)
 some_is false x y h = absurd (cc)
 
-variable_named_read : (n : ℕ) → n ≤ 9 → (word : List ℕ) (p : Polynomial) → is_variable_name word ≡ true → variable_named n word ≡ Some p → IsRead n p
+variable_named_read : (n : ℕ) → n ≤ VARIABLES → (word : List ℕ) (p : Polynomial) → is_variable_name word ≡ true → variable_named n word ≡ Some p → IsRead n p
 variable_named_read n most [] p h e = absurd (cc)
 variable_named_read n most (b ∷ []) p h e = absurd (cc)
 variable_named_read n most (b ∷ digit ∷ digits) p h e =
@@ -76,18 +77,18 @@ number_named_read : (n : ℕ) (test : Bool) (o : Option ℕ) (p : Polynomial) �
 number_named_read n true o p e = constant_read n o p e
 number_named_read n false o p e = absurd (cc)
 
-named_read : (n : ℕ) → n ≤ 9 → (number : List ℕ → Option ℕ) (word : List ℕ) (p : Polynomial) (b : Bool) → is_variable_name word ≡ b
+named_read : (n : ℕ) → n ≤ VARIABLES → (number : List ℕ → Option ℕ) (word : List ℕ) (p : Polynomial) (b : Bool) → is_variable_name word ≡ b
     → cond b (variable_named n word) (cond (nat_le (length word) 32) (option_map constant (number word)) None) ≡ Some p → IsRead n p
 named_read n most number word p true h e = variable_named_read n most word p h e
 named_read n most number word p false h e = number_named_read n (nat_le (length word) 32) (number word) p e
 
-names_are : (n : ℕ) → n ≤ 9 → (number : List ℕ → Option ℕ) → NamesAre n (names_of n number)
+names_are : (n : ℕ) → n ≤ VARIABLES → (number : List ℕ → Option ℕ) → NamesAre n (names_of n number)
 names_are n most number word p e = named_read n most number word p (is_variable_name word) refl e
 
 tree_read : (n : ℕ) (names : List ℕ → Option Polynomial) (r : Result Tree TextFault) (p : Polynomial) → NamesAre n names → tree_value names r ≡ Ok p → IsRead n p
 tree_read n names (Ok t) p each e = value_read n names each t p e
 tree_read n names (Err fault) p each e = absurd (cc)
 
-pub text_read : (n : ℕ) → n ≤ 9 → (number : List ℕ → Option ℕ) (bytes : List ℕ) (p : Polynomial) → text_answer n number bytes ≡ Ok p → IsRead n p
+pub text_read : (n : ℕ) → n ≤ VARIABLES → (number : List ℕ → Option ℕ) (bytes : List ℕ) (p : Polynomial) → text_answer n number bytes ≡ Ok p → IsRead n p
 unfolding text_answer
 text_read n most number bytes p e = tree_read n (names_of n number) (tree_of (λ word. is_some (names_of n number word)) (length bytes) (tokens bytes)) p (names_are n most number) e

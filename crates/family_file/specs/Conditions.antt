@@ -1,10 +1,10 @@
 -- The two conditions on a field for a sector, and the module of a sector.
-use Rattle.std.specs.Prelude.{ℕ, ◌==◌, Bool, List, bit_and}
+use Rattle.std.specs.Prelude.{ℕ, ◌==◌, Bool, List}
 use Rattle.std.specs.Int.{bit_at}
-use Rattle.std.specs.List.{list_any}
 use Rattle.ibp_algebra.specs.Field.{MeetsConditions, IsInModule}
 use Rattle.ibp_algebra.specs.Polynomial.{Polynomial}
 use Rattle.sector_lattice.specs.declared.sector.Sector.{Sector}
+use Rattle.sector_lattice.specs.Subsectors.{is_subsector_of_any}
 use Rattle.family_file.specs.declared.parts.Field.{Field}
 use Rattle.family_file.specs.declared.parts.StrippedField.{StrippedField}
 
@@ -22,4 +22,4 @@ IsInSectorModule p sector field = IsInModule p (in_sector sector) field.c field.
 
 -- the sector is a subsector of a listed one
 abbrev pub is_zero_sector : List Sector → ℕ → Bool
-is_zero_sector zero sector = list_any (λ listed. bit_and sector listed.0 == sector) zero
+is_zero_sector zero sector = is_subsector_of_any sector zero

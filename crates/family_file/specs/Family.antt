@@ -1,12 +1,13 @@
 -- The family of a file, by the faults in their order.
 --     family_of need bytes      the family that the bytes describe, or the first fault that they have
-use Rattle.std.specs.Prelude.{ℕ, ◌+◌, ◌*◌, ◌/◌, ◌%◌, ◌==◌, ◌^◌, nat_lt, ℤ, List, [], length, Option, Some, None, Result, Ok, Err, if◌then◌else◌}
+use Rattle.std.specs.Prelude.{ℕ, ◌+◌, ◌*◌, ◌/◌, ◌==◌, ◌^◌, nat_lt, ℤ, List, length, Option, Some, None, Result, Ok, Err, if◌then◌else◌}
 use Rattle.std.specs.Option.{ok_or}
 use Rattle.std.specs.Str.{is_utf8}
 use Rattle.toml.specs.Data.{Members}
 use Rattle.toml.specs.Parse.{parse_document}
 use Rattle.ibp_field.specs.Arithmetic.{mul_mod, sub_mod}
 use Rattle.ibp_algebra.specs.Polynomial.{Polynomial}
+use Rattle.mono_order.specs.declared.limits.TheConstants.{VARIABLES}
 use Rattle.poly_text.specs.PolyText.{NumbersValue}
 use Rattle.poly_text.specs.Value.{is_zero}
 use Rattle.sector_lattice.specs.declared.sector.Sector.{Sector}
@@ -63,7 +64,7 @@ unfoldable pub shape_of : HeaderKeys → Result ShapeData FileFault
 shape_of header = do
   loops ← natural Shape 1 3 header.loops
   legs ← natural Shape 0 8 header.legs
-  variables ← natural Shape 1 9 header.variables
+  variables ← natural Shape 1 VARIABLES header.variables
   if variables == loops * (loops + 1) / 2 + loops * legs then Ok (record { loops = loops; legs = legs; variables = variables }) else Err Shape
 
 -- (D - L - E - 1)/2 modulo the prime, of which half of one is 1073741824

@@ -12,7 +12,9 @@ use Rattle.std.specs.Option.{ForSome}
 use Rattle.ibp_algebra.specs.Exponents.{deg_rev_lex}
 use Rattle.ibp_algebra.specs.Laurent.{same_powers}
 use Rattle.ibp_algebra.specs.Polynomial.{Polynomial}
+use Rattle.mono_order.specs.declared.limits.TheConstants.{VARIABLES}
 use Rattle.sector_lattice.specs.declared.sector.Sector.{Sector}
+use Rattle.family_file.specs.declared.limits.TheConstants.{FILE_DEGREE}
 use Rattle.family_file.specs.declared.parts.Bounds.{Bounds}
 use Rattle.family_file.specs.declared.parts.Budget.{Budget}
 use Rattle.family_file.specs.declared.parts.Probe.{Probe}
@@ -29,13 +31,13 @@ pub record BudgetWithin (budget : Budget) : Type 0 where
   pub candidates : budget.candidates ≤ 20000
 
 pub record IsProbe (n : ℕ) (probe : Probe) : Type 0 where
-  pub field : IsField n 24 probe.field.a probe.field.b
+  pub field : IsField n FILE_DEGREE probe.field.a probe.field.b
   pub seed : ArePowers n probe.seed
 
 pub record FamilyLimits (n : ℕ) (baikov : Polynomial) (targets : List (List ℤ)) (zero : List Sector) (bounds : Bounds) (budget : Budget) (probe : Option Probe) : Type 0 where
   pub some_variables : 1 ≤ n
-  pub few_variables : n ≤ 9
-  pub polynomial : IsPolynomial n 24 baikov
+  pub few_variables : n ≤ VARIABLES
+  pub polynomial : IsPolynomial n FILE_DEGREE baikov
   pub few_terms : length baikov ≤ 20000
   pub not_zero : baikov ≢ []
   pub few_targets : length targets ≤ 1000

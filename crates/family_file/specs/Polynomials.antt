@@ -3,7 +3,7 @@
 --     numbers_of table                        the numbers of a file, each with its name
 --     polynomial_in fault n numbers key       a polynomial in z1 to zn
 --     field_of fault n numbers ds             n of them
-use Rattle.std.specs.Prelude.{ℕ, ◌+◌, ◌-◌, ◌==◌, ℤ, nat_lt, nat_le, Bool, false, not, ◌&&◌, ◌||◌, Option, Some, None, List, [], ◌∷◌, ◌++◌, length, replicate, sum, Result, Ok, Err, if◌then◌else◌}
+use Rattle.std.specs.Prelude.{ℕ, ◌-◌, ◌==◌, nat_lt, nat_le, Bool, false, not, ◌&&◌, ◌||◌, Option, Some, None, List, [], ◌∷◌, ◌++◌, length, replicate, sum, Result, Ok, Err, if◌then◌else◌}
 use Rattle.std.specs.List.{list_all}
 use Rattle.std.specs.FinMap as map
 use Rattle.toml.specs.Data.{Data, Members}
@@ -11,9 +11,11 @@ use Rattle.ibp_field.specs.Arithmetic.{int_mod}
 use Rattle.ibp_algebra.specs.Exponents.{deg_rev_lex}
 use Rattle.ibp_algebra.specs.FormalSum.{normal_form}
 use Rattle.ibp_algebra.specs.Polynomial.{Polynomial}
+use Rattle.mono_order.specs.declared.limits.TheConstants.{VARIABLES}
 use Rattle.poly_text.specs.declared.fault.TextFault.{TextFault}
 use Rattle.poly_text.specs.PolyText.{NumbersValue, value_in, text_answer}
 use Rattle.poly_text.specs.Value.{constant_term}
+use Rattle.family_file.specs.declared.limits.TheConstants.{FILE_DEGREE}
 use Rattle.family_file.specs.declared.fault.FileFault.{FileFault}
 use Rattle.family_file.specs.declared.fault.FileFault.TheVariants.{Number}
 use Rattle.family_file.specs.Reading.{◌>>=◌, collect}
@@ -78,7 +80,7 @@ numbers_of (Some table) = numbers_in table
 unfoldable pub exponent_in : FileFault → Data → Result ℕ FileFault
 exponent_in fault d = do
   z ← integer_in fault d
-  natural fault 0 24 z
+  natural fault 0 FILE_DEGREE z
 
 -- a coefficient and the exponents of n variables
 unfoldable pub term_from : FileFault → ℕ → List Data → Result (List ℕ × ℕ) FileFault
@@ -86,7 +88,7 @@ term_from fault n [] = Err fault
 term_from fault n (first ∷ others) = do
   coefficient ← integer_in fault first
   exponents ← collect (exponent_in fault) others
-  if length exponents == n && nat_le (sum exponents) 24 then Ok (exponents ++ replicate (9 - n) 0, int_mod coefficient) else Err fault
+  if length exponents == n && nat_le (sum exponents) FILE_DEGREE then Ok (exponents ++ replicate (VARIABLES - n) 0, int_mod coefficient) else Err fault
 
 unfoldable pub term_in : FileFault → ℕ → Data → Result (List ℕ × ℕ) FileFault
 term_in fault n d = do

@@ -1,5 +1,5 @@
 -- Shapes of polynomials, fields and integrals in n variables.
---     HasVariables n m            nine exponents, of which those from place n on are zero
+--     HasVariables n m            as many exponents as a monomial has, of which those from place n on are zero
 --     IsPolynomial n degree p     canonical, with no variable above z_n, of at most this degree
 --     IsField n degree a b        n such polynomials and a factor
 --     ArePowers n powers          n powers from -30 to 30
@@ -9,9 +9,10 @@ use Rattle.ibp_algebra.specs.FormalSum.{AllKeys, IsCanonical}
 use Rattle.ibp_algebra.specs.Exponents.{deg_rev_lex}
 use Rattle.ibp_algebra.specs.Laurent.{power_at}
 use Rattle.ibp_algebra.specs.Polynomial.{Polynomial}
+use Rattle.mono_order.specs.declared.limits.TheConstants.{VARIABLES}
 
 pub record HasVariables (n : ℕ) (m : List ℕ) : Type 0 where
-  pub nine : length m ≡ 9
+  pub nine : length m ≡ VARIABLES
   pub none_beyond : (i : ℕ) → n ≤ i → slice_index_or m i 0 ≡ 0
 
 pub record IsPolynomial (n degree : ℕ) (p : Polynomial) : Type 0 where

@@ -4,6 +4,7 @@ ghost use Rattle.std.specs.Prelude.{◌≡◌, ◌≤◌, [], ℤ, pos, negsuc, 
 ghost use Rattle.std.specs.List.{list_any};
 ghost use Rattle.toml.specs.View.{view};
 ghost use Rattle.ibp_algebra.specs.Laurent.{same_powers};
+ghost use Rattle.mono_order.specs.declared.limits.TheConstants.{VARIABLES};
 ghost use Rattle.family_file.specs.Reading.{Returns, Gives, collect};
 ghost use Rattle.family_file.specs.Arrays.{integer_in, list_in, power_in, powers_from, powers_in, with_target, targets_of};
 ghost use Rattle.family_file.specs.Accumulated.{seen_after};
@@ -75,7 +76,7 @@ pub fn integral_from(
     fault: FileFault,
 ) -> Result<Integral, FamilyFault>
     requires some { 1 ≤ n }
-    requires few { n ≤ 9 }
+    requires few { n ≤ VARIABLES }
     ensures { Gives (λ t. t) result (powers_from fault n (map view values.now)) }
 {
     let powers = powers_from(alloc, values, n, fault)?;
@@ -93,7 +94,7 @@ fn integral_in(
     fault: FileFault,
 ) -> Result<Integral, FamilyFault>
     requires some { 1 ≤ n }
-    requires few { n ≤ 9 }
+    requires few { n ≤ VARIABLES }
     ensures { Gives (λ t. t) result (powers_in fault n (view value.now)) }
 {
     integral_from(alloc, list_in(value, fault)?, n, fault)
@@ -123,7 +124,7 @@ fn put_target(targets: &mut Vec<Integral>, target: Integral) -> Result<(), Alloc
 
 fn collect_targets(alloc: Global, values: &[Value], n: u8) -> Result<Vec<Integral>, FamilyFault>
     requires some { 1 ≤ n }
-    requires few { n ≤ 9 }
+    requires few { n ≤ VARIABLES }
     ensures { Gives (λ v. v.items) result
         (seen_after [] (collect (powers_in FileFault.Targets n) (map view values.now))) }
 {
@@ -141,7 +142,7 @@ fn collect_targets(alloc: Global, values: &[Value], n: u8) -> Result<Vec<Integra
 #[tactic(auto, unfolding(crate::specs::Arrays::targets_of))]
 pub fn targets_of(alloc: Global, values: &[Value], n: u8) -> Result<Vec<Integral>, FamilyFault>
     requires some { 1 ≤ n }
-    requires few { n ≤ 9 }
+    requires few { n ≤ VARIABLES }
     ensures { Gives (λ v. v.items) result (targets_of n (map view values.now)) }
 {
     if values.len() > MOST_TARGETS {

@@ -1,12 +1,18 @@
 //! Laws of the definitions.
 
-ghost use Rattle.std.specs.Prelude.{◌≡◌, ℕ, ℤ, List, Ok};
+ghost use Rattle.std.specs.Prelude.{◌≡◌, ◌↔◌, ℕ, ℤ, List, [], Ok, IsTrue, Contains};
+ghost use Rattle.std.specs.List.{IsDistinct};
 ghost use Rattle.ibp_algebra.specs.Identity.{in_sector_of};
+ghost use Rattle.ibp_algebra.specs.Laurent.{same_powers};
 ghost use Rattle.sector_lattice.specs.Sectors.{sector_of};
 ghost use Rattle.family_file.specs.Accepted.{DataWithin, MeetsNeed};
+ghost use Rattle.family_file.specs.Arrays.{first_seen};
 ghost use Rattle.family_file.specs.Conditions.{in_sector};
 ghost use Rattle.family_file.specs.Family.{FamilyData, family_of};
+ghost use Rattle.family_file.specs.FamilyView.{family_view};
 ghost use Rattle.family_file.specs.declared.need.Need.{Need};
+
+use crate::family::Family;
 
 /// The places of a sector are those of the positive powers of each of its integrals.
 pub fn places_are_positive_powers()
@@ -20,3 +26,16 @@ pub fn accepted_files_keep_the_limits()
     ensures needs { (need : Need) (bytes : List ℕ) (family : FamilyData)
         → family_of need bytes ≡ Ok family → MeetsNeed need family }
 {}
+
+/// The targets of a family are those of its file and no others, each once.
+pub fn targets_are_those_of_the_file()
+    ensures members { (targets : List (List ℤ)) (powers : List ℤ) → Contains (first_seen [] targets) powers ↔ Contains targets powers }
+    ensures once { (targets : List (List ℤ)) → IsDistinct same_powers (first_seen [] targets) }
+{}
+
+/// What `==` answers for two families: whether they are the same in each part.
+pub fn are_equal(left: &Family, right: &Family) -> bool
+    ensures { IsTrue result ↔ (family_view left.now ≡ family_view right.now) }
+{
+    left == right
+}

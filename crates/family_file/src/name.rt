@@ -57,7 +57,8 @@ impl Name {
         Ok(Some(Name { bytes }))
     }
 
-    pub(crate) fn copy(&self, alloc: Global) -> Result<Name, NoMemory>
+    /// An equal name.
+    pub fn copy(&self, alloc: Global) -> Result<Name, NoMemory>
         ensures { IfOk result (λ name. name ≡ self.now) }
     {
         let bytes = Vec::from_slice(alloc, &self.bytes)?;

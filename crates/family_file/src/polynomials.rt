@@ -4,14 +4,17 @@ ghost use Rattle.std.specs.Prelude.{◌≡◌, ◌+◌, ◌-◌, ◌^◌, ◌≤
 ghost use Rattle.ibp_algebra.specs.Exponents.{deg_rev_lex};
 ghost use Rattle.ibp_algebra.specs.FormalSum.{normal_form};
 ghost use Rattle.toml.specs.View.{view};
+ghost use Rattle.mono_order.specs.declared.limits.TheConstants.{VARIABLES};
 ghost use Rattle.poly_text.specs.PolyText.{value_in};
 ghost use Rattle.poly_text.specs.Value.{constant_term};
+ghost use Rattle.family_file.specs.declared.limits.TheConstants.{FILE_DEGREE};
 ghost use Rattle.family_file.specs.KeyViews.{number_view, polynomial_view};
 ghost use Rattle.family_file.specs.Reading.{Returns, Gives, collect};
 ghost use Rattle.family_file.specs.Polynomials.{text_in, number_text_in, residue_in, exponent_in, term_from, term_in, terms_of, polynomial_in, polynomial_value, field_of};
 
 use crate::arrays::{integer_in, list_in};
 use crate::fault::{FamilyFault, FileFault};
+use crate::limits::FILE_DEGREE;
 use crate::numbers::small;
 use crate::table::{NumberKey, PolynomialKey, polynomial};
 use ibp_base::NoMemory;
@@ -24,8 +27,6 @@ use toml::value::Value;
 
 const MOST_TERMS: usize = 20_000;
 
-const MOST_DEGREE: u16 = 24;
-
 // A text that is too long to have places has no room beside it.
 #[tactic(auto, unfolding(crate::specs::Polynomials::text_in))]
 fn text_in(
@@ -35,7 +36,7 @@ fn text_in(
     numbers: &Numbers,
     fault: FileFault,
 ) -> Result<Poly, FamilyFault>
-    requires { n ≤ 9 }
+    requires { n ≤ VARIABLES }
     ensures { Gives (λ p. p) result (text_in fault n numbers.now text.now) }
 {
     if text.len() > u32::MAX as usize {
@@ -84,7 +85,7 @@ pub fn residue_in(
 fn exponent_in(value: &Value, fault: FileFault) -> Result<u16, FileFault>
     ensures { Returns (λ n. n) result (exponent_in fault (view value.now)) }
 {
-    small(integer_in(value, fault)?, MOST_DEGREE, fault)
+    small(integer_in(value, fault)?, FILE_DEGREE, fault)
 }
 
 fn collect_exponents(
@@ -114,9 +115,9 @@ fn degree_of(exponents: &[u16]) -> u16
 
 // The monomial of the exponents of the first variables.
 fn monomial_of(exponents: &[u16]) -> Monomial
-    requires few { length exponents.now ≤ 9 }
-    requires within { sum exponents.now ≤ 24 }
-    ensures { result ≡ exponents.now ++ replicate (9 - length exponents.now) 0 }
+    requires few { length exponents.now ≤ VARIABLES }
+    requires within { sum exponents.now ≤ FILE_DEGREE }
+    ensures { result ≡ exponents.now ++ replicate (VARIABLES - length exponents.now) 0 }
 {
     let mut all = [0; 9];
     all[..exponents.len()].copy_from_slice(exponents);
@@ -133,7 +134,7 @@ fn term_from(
     n: u8,
     fault: FileFault,
 ) -> Result<(Monomial, Residue), FamilyFault>
-    requires { n ≤ 9 }
+    requires { n ≤ VARIABLES }
     ensures { Gives (λ t. t) result (term_from fault n (map view values.now)) }
 {
     let Some((first, others)) = values.split_first() else {
@@ -141,7 +142,7 @@ fn term_from(
     };
     let coefficient = integer_in(first, fault)?;
     let exponents = collect_exponents(alloc, others, fault)?;
-    if exponents.len() == usize::from(n) && degree_of(&exponents) <= MOST_DEGREE {
+    if exponents.len() == usize::from(n) && degree_of(&exponents) <= FILE_DEGREE {
         Ok((monomial_of(&exponents), Residue::from_i64(coefficient)))
     } else {
         Err(FamilyFault::File(fault))
@@ -155,7 +156,7 @@ fn term_in(
     n: u8,
     fault: FileFault,
 ) -> Result<(Monomial, Residue), FamilyFault>
-    requires { n ≤ 9 }
+    requires { n ≤ VARIABLES }
     ensures { Gives (λ t. t) result (term_in fault n (view value.now)) }
 {
     term_from(alloc, list_in(value, fault)?, n, fault)
@@ -167,7 +168,7 @@ fn collect_terms(
     n: u8,
     fault: FileFault,
 ) -> Result<Vec<(Monomial, Residue)>, FamilyFault>
-    requires { n ≤ 9 }
+    requires { n ≤ VARIABLES }
     ensures { Gives (λ v. v.items) result (collect (term_in fault n) (map view values.now)) }
 {
     let mut terms = Vec::new(alloc);
@@ -187,7 +188,7 @@ fn sum_of(alloc: Global, terms: &[(Monomial, Residue)]) -> Result<Poly, NoMemory
 
 #[tactic(auto, unfolding(crate::specs::Polynomials::terms_of))]
 fn terms_of(alloc: Global, values: &[Value], n: u8, fault: FileFault) -> Result<Poly, FamilyFault>
-    requires { n ≤ 9 }
+    requires { n ≤ VARIABLES }
     ensures { Gives (λ p. p) result (terms_of fault n (map view values.now)) }
 {
     if values.len() > MOST_TERMS {
@@ -205,7 +206,7 @@ pub fn polynomial_in(
     numbers: &Numbers,
     fault: FileFault,
 ) -> Result<Poly, FamilyFault>
-    requires { n ≤ 9 }
+    requires { n ≤ VARIABLES }
     ensures { Gives (λ p. p) result
         (polynomial_in fault n numbers.now (polynomial_view polynomial.entry)) }
 {
@@ -223,7 +224,7 @@ fn polynomial_value(
     numbers: &Numbers,
     fault: FileFault,
 ) -> Result<Poly, FamilyFault>
-    requires { n ≤ 9 }
+    requires { n ≤ VARIABLES }
     ensures { Gives (λ p. p) result (polynomial_value fault n numbers.now (view value.now)) }
 {
     polynomial_in(alloc, polynomial(value, fault)?, n, numbers, fault)
@@ -236,7 +237,7 @@ fn collect_polynomials(
     numbers: &Numbers,
     fault: FileFault,
 ) -> Result<Vec<Poly>, FamilyFault>
-    requires { n ≤ 9 }
+    requires { n ≤ VARIABLES }
     ensures { Gives (λ v. v.items) result
         (collect (polynomial_value fault n numbers.now) (map view values.now)) }
 {
@@ -256,7 +257,7 @@ pub fn field_of(
     numbers: &Numbers,
     fault: FileFault,
 ) -> Result<Vec<Poly>, FamilyFault>
-    requires { n ≤ 9 }
+    requires { n ≤ VARIABLES }
     ensures { Gives (λ v. v.items) result (field_of fault n numbers.now (map view values.now)) }
 {
     if values.len() != usize::from(n) {

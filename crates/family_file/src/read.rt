@@ -2,6 +2,7 @@
 
 ghost use Rattle.std.specs.Prelude.{◌≡◌, ◌≤◌, IfOk, option_map};
 ghost use Rattle.toml.specs.View.{table_view};
+ghost use Rattle.mono_order.specs.declared.limits.TheConstants.{VARIABLES};
 ghost use Rattle.family_file.specs.Reading.{Returns, Gives};
 ghost use Rattle.family_file.specs.Document.{document_keys};
 ghost use Rattle.family_file.specs.Views.{header_view, body_view, bounds_view, budget_view, probe_view, document_view};
@@ -24,6 +25,7 @@ use crate::polynomials::{field_of, polynomial_in, residue_in};
 use crate::sectors::zero_sectors_of;
 use ibp_base::List;
 use ibp_field::Residue;
+use mono_order::VARIABLES;
 use poly_text::Numbers;
 use sector_lattice::{Integral, Sector};
 use sparse_poly::Poly;
@@ -67,13 +69,13 @@ struct Shape {
 fn shape_of(header: &HeaderKeys<'_>) -> Result<Shape, FileFault>
     ensures value { Returns shape_view result (shape_of (header_view header.now)) }
     ensures some { IfOk result (λ s. 1 ≤ s.variables) }
-    ensures few { IfOk result (λ s. s.variables ≤ 9) }
+    ensures few { IfOk result (λ s. s.variables ≤ VARIABLES) }
     ensures loops { IfOk result (λ s. s.loops ≤ 3) }
     ensures legs { IfOk result (λ s. s.legs ≤ 8) }
 {
     let loops = natural(header.loops, 1, 3, FileFault::Shape)?;
     let legs = natural(header.legs, 0, 8, FileFault::Shape)?;
-    let variables = natural(header.variables, 1, 9, FileFault::Shape)?;
+    let variables = natural(header.variables, 1, VARIABLES as u32, FileFault::Shape)?;
     if variables == loops * (loops + 1) / 2 + loops * legs {
         Ok(Shape {
             loops,
@@ -133,7 +135,7 @@ fn probe_of(
     probe: &ProbeKeys<'_>,
 ) -> Result<Probe, FamilyFault>
     requires some { 1 ≤ n }
-    requires few { n ≤ 9 }
+    requires few { n ≤ VARIABLES }
     ensures { Gives (λ p. p) result (probe_of n numbers.now (probe_view probe.now)) }
 {
     let a = field_of(alloc, probe.field, n, numbers, FileFault::Probe)?;
@@ -158,7 +160,7 @@ fn needed_probe(
     probe: &Option<ProbeKeys<'_>>,
 ) -> Result<Option<Probe>, FamilyFault>
     requires some { 1 ≤ n }
-    requires few { n ≤ 9 }
+    requires few { n ≤ VARIABLES }
     ensures { Gives (λ p. p) result
         (needed_probe need n numbers.now (option_map probe_view probe.now)) }
 {
@@ -176,7 +178,7 @@ fn needed_probe(
 
 // A sector that is needed has a number below 2^n.
 fn check_sector(need: Need, n: u8) -> Result<(), FileFault>
-    requires { n ≤ 9 }
+    requires { n ≤ VARIABLES }
     ensures { Returns (λ _. tt) result (sector_check need n) }
 {
     match need {
@@ -202,7 +204,7 @@ fn baikov_of(
     numbers: &Numbers,
     body: &BodyKeys<'_>,
 ) -> Result<Poly, FamilyFault>
-    requires { n ≤ 9 }
+    requires { n ≤ VARIABLES }
     ensures { Gives (λ p. p) result (baikov_of n numbers.now (body_view body.now)) }
 {
     let polynomial = polynomial_in(alloc, body.baikov, n, numbers, FileFault::Baikov)?;
@@ -222,7 +224,7 @@ struct Body {
 #[tactic(auto, unfolding(crate::specs::Family::body_of))]
 fn body_of(alloc: Global, n: u8, body: &BodyKeys<'_>) -> Result<Body, FamilyFault>
     requires some { 1 ≤ n }
-    requires few { n ≤ 9 }
+    requires few { n ≤ VARIABLES }
     ensures { Gives read_body_view result (body_of n (body_view body.now)) }
 {
     let dimension = residue_in(alloc, body.dimension, FileFault::Number)?;

@@ -3,6 +3,7 @@
 ghost use Rattle.std.specs.Prelude.{◌≡◌, ◌≤◌, ◌<◌, ◌^◌, nat_eq, map, option_map};
 ghost use Rattle.std.specs.List.{list_any};
 ghost use Rattle.toml.specs.View.{view};
+ghost use Rattle.mono_order.specs.declared.limits.TheConstants.{VARIABLES};
 ghost use Rattle.family_file.specs.Reading.{Returns, Gives, collect};
 ghost use Rattle.family_file.specs.Arrays.{place_in, are_distinct, sector_number, sector_of_places, sector_in, zero_sectors_of};
 
@@ -49,7 +50,7 @@ fn are_distinct(places: &[u32]) -> bool
 }
 
 fn sector_number(n: u8, places: &[u32]) -> u16
-    requires { n ≤ 9 }
+    requires { n ≤ VARIABLES }
     ensures value { result ≡ sector_number n places.now }
     ensures bound { result < 2 ^ n }
 {
@@ -65,7 +66,7 @@ fn sector_number(n: u8, places: &[u32]) -> u16
 }
 
 fn sector_of_places(n: u8, places: &[u32]) -> Result<Sector, FileFault>
-    requires { n ≤ 9 }
+    requires { n ≤ VARIABLES }
     ensures { Returns (λ s. s) result (sector_of_places n places.now) }
 {
     if are_distinct(places) {
@@ -77,7 +78,7 @@ fn sector_of_places(n: u8, places: &[u32]) -> Result<Sector, FileFault>
 
 #[tactic(auto, unfolding(crate::specs::Arrays::sector_in))]
 fn sector_in(alloc: Global, value: &Value, n: u8) -> Result<Sector, FamilyFault>
-    requires { n ≤ 9 }
+    requires { n ≤ VARIABLES }
     ensures { Gives (λ s. s) result (sector_in n (view value.now)) }
 {
     let values = list_in(value, FileFault::ZeroSectors)?;
@@ -86,7 +87,7 @@ fn sector_in(alloc: Global, value: &Value, n: u8) -> Result<Sector, FamilyFault>
 }
 
 fn collect_sectors(alloc: Global, values: &[Value], n: u8) -> Result<Vec<Sector>, FamilyFault>
-    requires { n ≤ 9 }
+    requires { n ≤ VARIABLES }
     ensures { Gives (λ v. v.items) result (collect (sector_in n) (map view values.now)) }
 {
     let mut sectors = Vec::new(alloc);
@@ -103,7 +104,7 @@ pub fn zero_sectors_of(
     values: Option<&Array>,
     n: u8,
 ) -> Result<Vec<Sector>, FamilyFault>
-    requires { n ≤ 9 }
+    requires { n ≤ VARIABLES }
     ensures { Gives (λ v. v.items) result
         (zero_sectors_of n (option_map (λ v. map view v.now.items) values.entry)) }
 {

@@ -1,4 +1,6 @@
+use crate::laws::are_equal;
 use crate::{FamilyFault, FileFault, MAX_FILE, Name, Need, read_family};
+use sector_lattice::{Integral, Sector};
 use std::alloc::{AllocError, Global};
 use std::test::Fail;
 
@@ -138,6 +140,31 @@ fn families(rt: HostRuntime) -> Result<(), Fail> {
         assert_eq!(rt; family.zero.as_slice().len(), zero);
         assert_eq!(rt; family.budget.pairs, 1_000_000);
         assert_eq!(rt; family.budget.candidates, 20_000);
+    }
+    Ok(())
+}
+
+#[test]
+fn a_copy_and_its_zero_sectors(rt: HostRuntime) -> Result<(), Fail> {
+    let alloc = rt.alloc();
+    let bubble = read_family(alloc, BUBBLE.as_bytes(), Need::Family)
+        .ok()
+        .ok_or("a family")?;
+    let plane = read_family(alloc, PLANE.as_bytes(), Need::Family)
+        .ok()
+        .ok_or("a family")?;
+    let copy = bubble.copy(alloc).ok().ok_or("memory")?;
+    assert_eq!(rt; copy.name.as_bytes(), b"bubble".as_slice());
+    assert_eq!(rt; copy.n, 2);
+    assert_eq!(rt; copy.gamma.value(), 7);
+    assert_eq!(rt; copy.zero.as_slice(), [Sector(1), Sector(2)].as_slice());
+    assert!(rt; copy.targets.as_slice().first().copied() == Integral::new(&[2, 1]));
+    assert_eq!(rt; copy.targets.as_slice().len(), 1);
+    assert_eq!(rt; are_equal(&copy, &bubble), true);
+    assert_eq!(rt; are_equal(&copy, &plane), false);
+    for (number, is_zero) in [(0, true), (1, true), (2, true), (3, false)] {
+        assert_eq!(rt; copy.is_zero(Sector(number)), is_zero, "at {number}");
+        assert_eq!(rt; plane.is_zero(Sector(number)), false, "at {number}");
     }
     Ok(())
 }

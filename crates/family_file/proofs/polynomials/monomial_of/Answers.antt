@@ -1,4 +1,5 @@
 use Rattle.std.proofs.Common.{ap, refl, arith, ◌∙◌, ◌-◌, length, sum}
+use Rattle.mono_order.specs.declared.limits.TheConstants.{VARIABLES}
 use Rattle.family_file.proofs.Filling.{filled, padded_sum}
 use Rattle.family_file.proofs.polynomials.monomial_of.Goals as goal
 
@@ -8,6 +9,6 @@ returns-in-Some c = c.in-Some.ensures.value ∙ filled c.args.exponents.now c.co
 pub returns-in-None : goal.returns-in-None
 returns-in-None c =
     let same = filled c.args.exponents.now c.copy_from_slice.new.self c.copy_from_slice.ensures.after in
-    let total = ap sum same ∙ padded_sum (9 - length c.args.exponents.now) c.args.exponents.now in
+    let total = ap sum same ∙ padded_sum (VARIABLES - length c.args.exponents.now) c.args.exponents.now in
     let over = c.in-None.ensures.none.0 refl in
     absurd (omega (arith, over, total, c.requires.within))
