@@ -11,6 +11,7 @@ use Rattle.ibp_algebra.proofs.ExponentLaws.{length-first_exponents, first_expone
 use Rattle.ibp_algebra.specs.ExponentOrder.{exponents_decide}
 use Rattle.ibp_algebra.specs.Laurent.{same_powers, SameLaurent, laurent}
 use Rattle.ibp_algebra.specs.Identity.{HasPowers}
+use Rattle.mono_order.specs.declared.limits.TheConstants.{VARIABLES}
 use Rattle.family_file.specs.Shapes.{HasVariables}
 use Rattle.ibp_relation.proofs.LaurentLaws.{powers_decide}
 
@@ -20,7 +21,7 @@ natural (negsuc x) = 0
 
 -- the exponents of a power product without negative powers, continued by zeros
 back : ℕ → List ℤ → List ℕ
-back n k = map natural k ++ replicate (9 - n) 0
+back n k = map natural k ++ replicate (VARIABLES - n) 0
 
 naturals : (m : List ℕ) → map natural (map pos m) ≡ m
 unfolding natural
@@ -40,18 +41,18 @@ continued (suc n) (x ∷ m) h none =
     let less : suc (length m) - suc n ≡ length m - n = omega arith in
     ap (λ k. x ∷ (take n m ++ replicate k 0)) less ∙ ap (λ l. x ∷ l) (continued n m (omega arith) (λ j le. none (suc j) (omega arith)))
 
-back-taken : (n : ℕ) (m : List ℕ) → n ≤ 9 → HasVariables n m → back n (map pos (first_exponents n m)) ≡ m
+back-taken : (n : ℕ) (m : List ℕ) → n ≤ VARIABLES → HasVariables n m → back n (map pos (first_exponents n m)) ≡ m
 unfolding back
 back-taken n m fits h =
-    let long_is : 9 ≡ length m = sym h.nine in
+    let long_is : VARIABLES ≡ length m = sym h.nine in
     (λ i. naturals (first_exponents n m) i ++ replicate (long_is i - n) 0)
     ∙ (λ i. first_exponents-take n m (omega (arith, long_is)) i ++ replicate (length m - n) 0) ∙ continued n m (omega (arith, long_is)) h.none_beyond
 
-back-laurent : (n : ℕ) (p : Polynomial) → n ≤ 9 → AllKeys (HasVariables n) p → map_keys (back n) (laurent n p) ≡ p
+back-laurent : (n : ℕ) (p : Polynomial) → n ≤ VARIABLES → AllKeys (HasVariables n) p → map_keys (back n) (laurent n p) ≡ p
 back-laurent n [] fits h = refl
 back-laurent n (t ∷ p) fits h = λ i. (back-taken n t.0 fits h.0 i, t.1) ∷ back-laurent n p fits h.1 i
 
-pub laurent_not_zero : (n : ℕ) (p : Polynomial) → n ≤ 9 → AllKeys (HasVariables n) p → ¬ (SamePolynomial p []) → ¬ (SameLaurent (laurent n p) [])
+pub laurent_not_zero : (n : ℕ) (p : Polynomial) → n ≤ VARIABLES → AllKeys (HasVariables n) p → ¬ (SamePolynomial p []) → ¬ (SameLaurent (laurent n p) [])
 laurent_not_zero n p fits h not_zero all_zero =
     not_zero
     (SameCoefficients-trans (SameCoefficients-from_eq (sym (back-laurent n p fits h)))

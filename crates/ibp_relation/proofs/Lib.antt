@@ -12,3 +12,4 @@ pub mod Powers
 pub mod Divisions
 pub mod Degrees
 pub mod Outcomes
+pub mod UnstrippedForms

@@ -12,6 +12,7 @@ use Rattle.ibp_algebra.proofs.Canonical.{same_canonical}
 use Rattle.ibp_algebra.proofs.PolynomialLaws.{same_polynomials}
 use Rattle.ibp_algebra.proofs.Striking.{coefficient-strike_kept, coefficient-strike_struck}
 use Rattle.ibp_algebra.proofs.SumLaws.{SameCoefficients-trans, SameCoefficients-from_eq, SameCoefficients-retest}
+use Rattle.mono_order.specs.declared.limits.TheConstants.{VARIABLES}
 use Rattle.sector_lattice.specs.Sectors.{integral_cmp}
 use Rattle.sector_lattice.specs.Orders.{integral_cmp_total, same_integrals, integrals_decide}
 use Rattle.sparse_rows.specs.Rows.{SameRow}
@@ -44,10 +45,10 @@ identity_row n γ p a b α struck terms now sum row long fits meets made is summ
     (λ β fails. ap (λ k. k % 2147483647) (coefficient-strike_kept same_powers powers_decide struck β sum fails) ∙ all.same_at β)
     (λ β passes. ap (λ k. k % 2147483647) (coefficient-strike_struck same_powers powers_decide struck β sum passes)))
 
-pub not_zero : (n degree : ℕ) (p : Polynomial) → n ≤ 9 → IsPolynomial n degree p → p ≢ [] → ¬ (SameLaurent (laurent n p) [])
+pub not_zero : (n degree : ℕ) (p : Polynomial) → n ≤ VARIABLES → IsPolynomial n degree p → p ≢ [] → ¬ (SameLaurent (laurent n p) [])
 not_zero n degree p few shape some = laurent_not_zero n p few shape.variables (λ zero. some (same_polynomials p [] shape.canonical tt zero))
 
-pub none_rises : (n degree high γ : ℕ) (p : Polynomial) (a : List Polynomial) (b : Polynomial) (α : List ℤ) → n ≤ 9 → IsPolynomial n degree p → p ≢ []
+pub none_rises : (n degree high γ : ℕ) (p : Polynomial) (a : List Polynomial) (b : Polynomial) (α : List ℤ) → n ≤ VARIABLES → IsPolynomial n degree p → p ≢ []
     → IsField n high a b → ArePowers n α → MeetsConditions p (in_sector_of α) a b → NoneRises n γ p a α
 none_rises n degree high γ p a b α few shape some field powers meets r r_powers is β counts =
     IsIdentity-DoesNotRise n γ p a b α r powers.count (omega (arith, field.count)) (λ j below. (field.polynomials j [] below).canonical)

@@ -12,6 +12,8 @@ use Rattle.ibp_algebra.specs.Laurent.{add_powers, power_at}
 use Rattle.ibp_algebra.specs.Identity.{negated}
 use Rattle.ibp_algebra.proofs.ExponentLaws.{length-padded_sum_short, get_or-first_exponents}
 use Rattle.ibp_algebra.proofs.SumOfExponents.{get_or-le-sum}
+use Rattle.mono_order.specs.declared.limits.TheConstants.{MONO_DEGREE, VARIABLES}
+use Rattle.sector_lattice.specs.declared.integral.TheConstants.{POWER}
 use Rattle.sector_lattice.specs.Ranges.{InRange}
 use Rattle.family_file.specs.Shapes.{ArePowers}
 use Rattle.ibp_relation.specs.Shifts.{plus_unit, powers_of}
@@ -32,11 +34,11 @@ less_at α m j h = shifted α (first_exponents (length α) m) j ∙ ap (λ x. po
 
 -- the first places are written
 pub record LoweredBelow (α : List ℤ) (m : List ℕ) (i : ℕ) (powers : List ℤ) : Type 0 where
-  pub nine : length powers ≡ 9
+  pub nine : length powers ≡ VARIABLES
   pub written : take i powers ≡ take i (less α m)
 
 -- one more place is written
-pub lowered_step : (α : List ℤ) (m : List ℕ) (powers : List ℤ) (i : ℕ) (y : ℤ) → length α ≤ 9 → i < length α
+pub lowered_step : (α : List ℤ) (m : List ℕ) (powers : List ℤ) (i : ℕ) (y : ℤ) → length α ≤ VARIABLES → i < length α
     → y ≡ power_at α i -ℤ pos (get_or m i 0) → LoweredBelow α m i powers → LoweredBelow α m (i + 1) (set powers i y)
 lowered_step α m powers i y few h value e =
     let written : y ≡ get_or (less α m) i (pos 0) = value ∙ sym (less_at α m i h) in
@@ -53,7 +55,7 @@ lowered_whole α m powers i n whole within count e =
     let end : n ≡ i = omega arith in
     ap (λ k. take k powers) end ∙ e.written ∙ take_all i (less α m) (omega (arith, less_long α m))
 
-pub less_in_range : (α : List ℤ) (m : List ℕ) → InRange α → ArePowers (length α) α → sum m ≤ 300 → InRange (less α m)
+pub less_in_range : (α : List ℤ) (m : List ℕ) → InRange α → ArePowers (length α) α → sum m ≤ MONO_DEGREE → InRange (less α m)
 less_in_range α m h small degree = record {
   some = omega (arith, h.some, less_long α m);
   few = omega (arith, h.few, less_long α m);
@@ -92,8 +94,8 @@ raised_powers powers α n i x fits first below e =
     ∙ ap (λ v. v +ℤ power_at (plus_unit i) j) (sym (get_or-take n powers j (pos 0) small) ∙ ap (λ (l : List ℤ). get_or l j (pos 0)) first)
     ∙ sym (power_of_sum α (plus_unit i) j))
 
-raised_small : (α : List ℤ) (i k : ℕ) → InRange α → power_at α i <ℤ pos 600 → k < length α
-    → (neg_ℤ (pos 600) ≤ℤ (power_at α k +ℤ power_at (plus_unit i) k)) × ((power_at α k +ℤ power_at (plus_unit i) k) ≤ℤ pos 600)
+raised_small : (α : List ℤ) (i k : ℕ) → InRange α → power_at α i <ℤ POWER → k < length α
+    → (neg_ℤ POWER ≤ℤ (power_at α k +ℤ power_at (plus_unit i) k)) × ((power_at α k +ℤ power_at (plus_unit i) k) ≤ℤ POWER)
 raised_small α i k h room below =
     let within = h.small k (pos 0) below in
     let low = within.0 in
@@ -101,12 +103,12 @@ raised_small α i k h room below =
     ⊎_elim
     (λ (e : i ≡ k).
     let unit : power_at (plus_unit i) k ≡ pos 1 = ap (power_at (plus_unit i)) (sym e) ∙ own_unit i in
-    let here : power_at α k <ℤ pos 600 = subst (λ j. power_at α j <ℤ pos 600) e room in
+    let here : power_at α k <ℤ POWER = subst (λ j. power_at α j <ℤ POWER) e room in
     rw unit (omega (arith, ints), omega (arith, ints)))
     (λ (apart : i ≢ k). rw (other_unit i k apart) (omega (arith, ints), omega (arith, ints)))
     (cases_eq i k)
 
-pub raised_in_range : (α : List ℤ) (i : ℕ) → InRange α → i < length α → power_at α i <ℤ pos 600 → InRange (add_powers α (plus_unit i))
+pub raised_in_range : (α : List ℤ) (i : ℕ) → InRange α → i < length α → power_at α i <ℤ POWER → InRange (add_powers α (plus_unit i))
 raised_in_range α i h below room =
     let long = length-padded_sum_short ◌+ℤ◌ (length α) α (plus_unit i) refl (omega (arith, length-plus_unit i)) in
     record {

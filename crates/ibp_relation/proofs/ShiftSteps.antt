@@ -12,6 +12,7 @@ use Rattle.ibp_algebra.specs.Polynomial.{Polynomial}
 use Rattle.ibp_algebra.proofs.ExponentLaws.{get_or-first_exponents}
 use Rattle.ibp_algebra.specs.Laurent.{Laurent, same_powers, SameLaurent, add_powers, power_at, laurent}
 use Rattle.ibp_algebra.specs.Identity.{negated}
+use Rattle.sector_lattice.specs.declared.integral.TheConstants.{POWER}
 use Rattle.ibp_relation.specs.Shifts.{HasDegree, plus_unit, powers_of, field_shifts, factor_shifts, field_shifts_from, shifts}
 use Rattle.ibp_relation.proofs.LaurentLaws.{powers_decide, SameLaurent-refl, SameLaurent-append}
 use Rattle.ibp_relation.proofs.NoRise.{power_of_exponents, shifted}
@@ -81,7 +82,7 @@ degree_at degree f terms i item same within is h =
 
 -- a lowered power has room for one more
 pub room_to_raise : (α : List ℤ) (n place : ℕ) (m : List ℕ) (lowered : List ℤ) → lowered ≡ add_powers α (negated (powers_of n m)) → power_at α place ≤ℤ pos 30
-    → power_at lowered place <ℤ pos 600
+    → power_at lowered place <ℤ POWER
 room_to_raise α n place m lowered e h =
     let value : power_at lowered place ≡ power_at α place -ℤ pos (get_or (first_exponents n m) place 0) = ap (λ k. power_at k place) e ∙ shifted α (first_exponents n m) place in
     rw value (omega (arith, ints))

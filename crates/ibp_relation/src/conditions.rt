@@ -1,6 +1,10 @@
 // The two conditions on a field.
 ghost use Rattle.std.specs.Prelude.{◌≡◌, ◌+◌, ◌≤◌, length, All, IfOk, IfSome, IsTrue, IsNone, ◌↔◌};
+ghost use Rattle.ibp_algebra.specs.Exponents.{deg_rev_lex};
+ghost use Rattle.ibp_algebra.specs.FormalSum.{IsCanonical};
 ghost use Rattle.ibp_algebra.specs.Polynomial.{SamePolynomial, degree_of, derivative_along, multiply};
+ghost use Rattle.mono_order.specs.declared.limits.TheConstants.{MONO_DEGREE, VARIABLES};
+ghost use Rattle.family_file.specs.declared.limits.TheConstants.{FILE_DEGREE};
 ghost use Rattle.family_file.specs.Shapes.{IsPolynomial};
 ghost use Rattle.ibp_relation.specs.Conditions.{IsDivided, IsFirstUndivided};
 ghost use Rattle.ibp_relation.specs.Shifts.{HasDegree};
@@ -13,7 +17,7 @@ use std::alloc::Global;
 // The least i with a positive power whose variable does not divide a_i.
 pub fn first_undivided(a: &[Poly], seed: &Integral) -> Option<u8>
     requires fits { length a.now ≡ length seed.now }
-    requires few { length a.now ≤ 9 }
+    requires few { length a.now ≤ VARIABLES }
     ensures found { IfSome result (λ i. IsFirstUndivided seed.now a.now i) }
     ensures none { IsNone result → IsDivided seed.now a.now }
 {
@@ -28,10 +32,10 @@ pub fn first_undivided(a: &[Poly], seed: &Integral) -> Option<u8>
 
 // Whether the sum over i of a_i times the derivative of P by z_i equals b times P.
 pub fn is_tangent(alloc: Global, baikov: &Poly, a: &[Poly], b: &Poly) -> Result<bool, NoMemory>
-    requires few { length a.now ≤ 9 }
-    requires baikov { HasDegree 24 baikov.now }
-    requires degrees { All (HasDegree 24) a.now }
-    requires degree { HasDegree 24 b.now }
+    requires few { length a.now ≤ VARIABLES }
+    requires baikov { HasDegree FILE_DEGREE baikov.now }
+    requires degrees { All (HasDegree FILE_DEGREE) a.now }
+    requires degree { HasDegree FILE_DEGREE b.now }
     ensures { IfOk result (λ r. IsTrue r ↔ SamePolynomial (derivative_along a.now baikov.now) (multiply b.now baikov.now)) }
 {
     let mut sum = Poly::zero(alloc);
@@ -44,9 +48,10 @@ pub fn is_tangent(alloc: Global, baikov: &Poly, a: &[Poly], b: &Poly) -> Result<
 }
 
 // The product of two polynomials of small degree.
-fn product(alloc: Global, left: &Poly, right: &Poly) -> Result<Poly, NoMemory>
-    requires { degree_of left.now + degree_of right.now ≤ 300 }
-    ensures { IfOk result (λ p. SamePolynomial p (multiply left.now right.now)) }
+pub fn product(alloc: Global, left: &Poly, right: &Poly) -> Result<Poly, NoMemory>
+    requires { degree_of left.now + degree_of right.now ≤ MONO_DEGREE }
+    ensures product { IfOk result (λ p. SamePolynomial p (multiply left.now right.now)) }
+    ensures canonical { IfOk result (λ p. IsCanonical deg_rev_lex p) }
 {
     match left.mul(alloc, right) {
         Ok(product) => Ok(product),

@@ -6,5 +6,6 @@ pub mod laws;
 mod moves;
 mod relation;
 mod shifts;
+mod unstripping;
 
-pub use relation::{IdentityFault, identity};
+pub use relation::{IdentityFault, candidate, identity};

@@ -2,6 +2,8 @@
 ghost use Rattle.std.specs.Prelude.{◌≡◌, ◌-◌, ◌≤◌, pos, ◌<ℤ◌, length, sum};
 ghost use Rattle.ibp_algebra.specs.Laurent.{power_at, add_powers};
 ghost use Rattle.ibp_algebra.specs.Identity.{negated};
+ghost use Rattle.mono_order.specs.declared.limits.TheConstants.{MONO_DEGREE};
+ghost use Rattle.sector_lattice.specs.declared.integral.TheConstants.{POWER};
 ghost use Rattle.sector_lattice.specs.Ranges.{InRange};
 ghost use Rattle.family_file.specs.Shapes.{ArePowers};
 ghost use Rattle.ibp_relation.specs.Shifts.{plus_unit, powers_of};
@@ -12,7 +14,7 @@ use sector_lattice::Integral;
 // The powers less the exponents.
 pub fn lowered(seed: &Integral, monomial: &Monomial) -> Integral
     requires seed { ArePowers (length seed.now) seed.now }
-    requires degree { sum monomial.now ≤ 300 }
+    requires degree { sum monomial.now ≤ MONO_DEGREE }
     ensures { result ≡ add_powers seed.now (negated (powers_of (length seed.now) monomial.now)) }
 {
     let mut powers = [0i16; 9];
@@ -25,7 +27,7 @@ pub fn lowered(seed: &Integral, monomial: &Monomial) -> Integral
 // One more of the power at z_i.
 pub fn raised(integral: &Integral, i: u8) -> Integral
     requires place { (1 ≤ i) × (i ≤ length integral.now) }
-    requires room { power_at integral.now (i - 1) <ℤ pos 600 }
+    requires room { power_at integral.now (i - 1) <ℤ POWER }
     ensures { result ≡ add_powers integral.now (plus_unit (i - 1)) }
 {
     let mut powers = [0i16; 9];

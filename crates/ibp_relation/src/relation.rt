@@ -1,16 +1,19 @@
 ghost use Rattle.std.specs.Prelude.{◌≡◌, ◌≢◌, ℕ, ◌↔◌, length, All, IfOk, OnOk};
 ghost use Rattle.ibp_algebra.specs.FormalSum.{IsCanonical};
-ghost use Rattle.ibp_algebra.specs.Field.{MeetsConditions};
+ghost use Rattle.ibp_algebra.specs.Field.{MeetsConditions, IsInModule, unstripped as unstripped_form};
 ghost use Rattle.ibp_algebra.specs.Identity.{in_sector_of, IsIdentityRow};
+ghost use Rattle.mono_order.specs.declared.limits.TheConstants.{MONO_DEGREE, RUN_DEGREE};
 ghost use Rattle.sector_lattice.specs.Sectors.{integral_cmp};
 ghost use Rattle.sparse_rows.specs.Rows.{is_zero_integral};
+ghost use Rattle.family_file.specs.declared.limits.TheConstants.{FILE_DEGREE};
 ghost use Rattle.family_file.specs.Shapes.{IsField, ArePowers};
 ghost use Rattle.ibp_relation.specs.Conditions.{IsDivided, IsFirstUndivided, IsTangent, NoneRises};
 ghost use Rattle.ibp_relation.specs.Shifts.{HasDegree};
 
 use crate::conditions::{first_undivided, is_tangent};
 use crate::shifts::identity_terms;
-use family_file::{Family, Field};
+use crate::unstripping::unstripped;
+use family_file::{Family, Field, StrippedField};
 use ibp_base::NoMemory;
 use sector_lattice::Integral;
 use sparse_poly::Poly;
@@ -48,7 +51,7 @@ pub fn identity(
     field: &Field,
     seed: &Integral,
 ) -> Result<Row, IdentityFault>
-    requires field { IsField family.now.n 24 field.now.a field.now.b }
+    requires field { IsField family.now.n FILE_DEGREE field.now.a field.now.b }
     requires seed { ArePowers family.now.n seed.now }
     ensures row { IfOk result (λ row. IsIdentityRow family.now.n family.now.gamma family.now.baikov field.now.a seed.now (is_zero_integral family.now.zero) row) }
     ensures canonical { IfOk result (λ row. IsCanonical integral_cmp row) }
@@ -68,6 +71,25 @@ pub fn identity(
     Ok(row_of(alloc, family, a, &field.b, seed)?)
 }
 
+/// The integration-by-parts identity at a seed of the field that a stripped field of the seed's sector stands
+/// for. Integrals of the family's zero sectors are left out.
+pub fn candidate(
+    alloc: Global,
+    family: &Family,
+    field: &StrippedField,
+    seed: &Integral,
+) -> Result<Row, NoMemory>
+    requires field { IsField family.now.n RUN_DEGREE field.now.c field.now.b }
+    requires seed { ArePowers family.now.n seed.now }
+    requires member { IsInModule family.now.baikov (in_sector_of seed.now) field.now.c field.now.b }
+    ensures row { IfOk result (λ row. IsIdentityRow family.now.n family.now.gamma family.now.baikov (unstripped_form (in_sector_of seed.now) field.now.c) seed.now (is_zero_integral family.now.zero) row) }
+    ensures canonical { IfOk result (λ row. IsCanonical integral_cmp row) }
+    ensures no_rise { NoneRises family.now.n family.now.gamma family.now.baikov (unstripped_form (in_sector_of seed.now) field.now.c) seed.now }
+{
+    let a = unstripped(alloc, field.c.as_slice(), seed)?;
+    row_of(alloc, family, &a, &field.b, seed)
+}
+
 // The row of the identity of a field that meets the two conditions.
 fn row_of(
     alloc: Global,
@@ -78,8 +100,8 @@ fn row_of(
 ) -> Result<Row, NoMemory>
     requires fits { length a.now ≡ family.now.n }
     requires seed { ArePowers family.now.n seed.now }
-    requires degrees { All (HasDegree 300) a.now }
-    requires degree { HasDegree 300 b.now }
+    requires degrees { All (HasDegree MONO_DEGREE) a.now }
+    requires degree { HasDegree MONO_DEGREE b.now }
     requires meets { MeetsConditions family.now.baikov (in_sector_of seed.now) a.now b.now }
     ensures row { IfOk result (λ row. IsIdentityRow family.now.n family.now.gamma family.now.baikov a.now seed.now (is_zero_integral family.now.zero) row) }
     ensures canonical { IfOk result (λ row. IsCanonical integral_cmp row) }

@@ -2,6 +2,7 @@
 ghost use Rattle.std.specs.Prelude.{◌≡◌, ◌-◌, ◌≤◌, ◌++◌, length, sum, All, IfOk};
 ghost use Rattle.ibp_algebra.specs.FormalSum.{AllKeys};
 ghost use Rattle.ibp_algebra.specs.Laurent.{SameLaurent, laurent};
+ghost use Rattle.mono_order.specs.declared.limits.TheConstants.{MONO_DEGREE, VARIABLES};
 ghost use Rattle.family_file.specs.Shapes.{ArePowers};
 ghost use Rattle.ibp_relation.specs.Shifts.{field_shifts, factor_shifts, shifts, HasDegree};
 
@@ -21,8 +22,8 @@ pub fn identity_terms(
 ) -> Result<Vec<(Integral, Residue)>, AllocError>
     requires fits { length a.now ≡ length seed.now }
     requires seed { ArePowers (length seed.now) seed.now }
-    requires degrees { All (HasDegree 300) a.now }
-    requires degree { HasDegree 300 b.now }
+    requires degrees { All (HasDegree MONO_DEGREE) a.now }
+    requires degree { HasDegree MONO_DEGREE b.now }
     ensures { IfOk result (λ v. SameLaurent v.items (shifts (length seed.now) gamma a.now b.now seed.now)) }
 {
     let mut terms = Vec::new(alloc);
@@ -41,9 +42,9 @@ fn push_field_shifts(
     seed: &Integral,
 ) -> Result<(), AllocError>
     requires place { (1 ≤ i) × (i ≤ length seed.now) }
-    requires few { i ≤ 9 }
+    requires few { i ≤ VARIABLES }
     requires seed { ArePowers (length seed.now) seed.now }
-    requires degree { HasDegree 300 a.now }
+    requires degree { HasDegree MONO_DEGREE a.now }
     ensures { IfOk result (λ _. SameLaurent terms.new.items (terms.old.items ++ field_shifts (i - 1) seed.now (laurent (length seed.now) a.now))) }
 {
     for (monomial, value) in a.terms() {
@@ -62,7 +63,7 @@ fn push_factor_shifts(
     seed: &Integral,
 ) -> Result<(), AllocError>
     requires seed { ArePowers (length seed.now) seed.now }
-    requires degree { HasDegree 300 b.now }
+    requires degree { HasDegree MONO_DEGREE b.now }
     ensures { IfOk result (λ _. SameLaurent terms.new.items (terms.old.items ++ factor_shifts gamma seed.now (laurent (length seed.now) b.now))) }
 {
     for (monomial, value) in b.terms() {

@@ -1,13 +1,14 @@
 use Rattle.std.proofs.Common.{◌≡◌, ℕ, ◌-◌, ◌<◌, List, length, drop, sym, subst, ◌∙◌, arith}
 use Rattle.std.specs.Prelude.{ℤ, pos, replicate}
 use Rattle.std.proofs.lemmas.Int.{ints}
+use Rattle.mono_order.specs.declared.limits.TheConstants.{VARIABLES}
 use Rattle.sector_lattice.specs.Ranges.{InRange}
 use Rattle.ibp_relation.proofs.Powers.{raised_copy, raised_power, raised_in_range}
 use Rattle.ibp_relation.proofs.moves.raised.Goals as goal
 
 -- what stays of the nine places
 abbrev rest : ℕ → List ℤ
-rest n = drop n (replicate 9 (pos 0))
+rest n = drop n (replicate VARIABLES (pos 0))
 
 pub in_range-requires : goal.in_range-requires
 in_range-requires c =

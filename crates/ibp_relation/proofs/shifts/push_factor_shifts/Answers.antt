@@ -1,4 +1,5 @@
 use Rattle.std.proofs.Common.{length}
+use Rattle.mono_order.specs.declared.limits.TheConstants.{MONO_DEGREE}
 use Rattle.ibp_relation.proofs.ShiftSteps.{degree_at, factor_step}
 use Rattle.ibp_relation.proofs.shifts.push_factor_shifts.Goals as goal
 
@@ -10,5 +11,5 @@ loop-monomial-preserved c =
 
 pub lowered-requires-clause-degree : goal.lowered-requires-clause-degree
 lowered-requires-clause-degree c =
-    degree_at 300 c.args.b.now c.terms-monomial-items.result.now c.loop-monomial.monomial-index c.loop-monomial-item.result c.terms-monomial-items.ensures.same
+    degree_at MONO_DEGREE c.args.b.now c.terms-monomial-items.result.now c.loop-monomial.monomial-index c.loop-monomial-item.result c.terms-monomial-items.ensures.same
     c.loop-monomial-test.true c.loop-monomial-item.is c.requires.degree

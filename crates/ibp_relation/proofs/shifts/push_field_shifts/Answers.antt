@@ -3,6 +3,7 @@ use Rattle.std.specs.Prelude.{pos}
 use Rattle.std.proofs.lemmas.Option.{get_or_from_slice_get}
 use Rattle.ibp_algebra.specs.Laurent.{power_at}
 use Rattle.std.proofs.lemmas.Int.{ints}
+use Rattle.mono_order.specs.declared.limits.TheConstants.{MONO_DEGREE}
 use Rattle.ibp_relation.proofs.ShiftSteps.{degree_at, field_step, room_to_raise, lowered_long}
 use Rattle.ibp_relation.proofs.shifts.push_field_shifts.Goals as goal
 
@@ -25,5 +26,5 @@ loop-monomial-preserved c =
 
 pub lowered-requires-clause-degree : goal.lowered-requires-clause-degree
 lowered-requires-clause-degree c =
-    degree_at 300 c.args.a.now c.terms-monomial-items.result.now c.loop-monomial.monomial-index c.loop-monomial-item.result c.terms-monomial-items.ensures.same
+    degree_at MONO_DEGREE c.args.a.now c.terms-monomial-items.result.now c.loop-monomial.monomial-index c.loop-monomial-item.result c.terms-monomial-items.ensures.same
     c.loop-monomial-test.true c.loop-monomial-item.is c.requires.degree

@@ -1,0 +1,29 @@
+use Rattle.std.proofs.Common.{◌-◌, ◌<◌, ℕ, List, [], ◌∷◌, set, replicate, subst, arith}
+use Rattle.ibp_algebra.specs.Polynomial.{SamePolynomial}
+use Rattle.mono_order.specs.declared.limits.TheConstants.{RUN_DEGREE, VARIABLES}
+use Rattle.ibp_relation.proofs.Degrees.{degree_within}
+use Rattle.ibp_relation.proofs.UnstrippedForms.{product_by_variable, variable_degree}
+use Rattle.ibp_relation.proofs.unstripping.times_variable.Goals as goal
+
+pub product-requires : goal.product-requires
+product-requires c =
+    let place = c.args.i - 1 in
+    let factor = c.in_ok-factor.factor in
+    let within : place < VARIABLES = omega (arith, c.requires.place) in
+    let same : SamePolynomial factor ((set (replicate VARIABLES 0) place 1, 1) ∷ []) =
+    subst (λ (m : List ℕ). SamePolynomial factor ((m, 1) ∷ [])) c.variable.ensures
+    (subst (λ n. SamePolynomial factor ((c.variable.result, n) ∷ [])) c.one.ensures c.in_ok-factor.ensures.sum)
+    in
+    omega (arith, variable_degree place factor within c.in_ok-factor.ensures.canonical same, degree_within RUN_DEGREE c.args.poly.now c.requires.degree)
+
+pub returns : goal.returns
+returns c =
+    let place = c.args.i - 1 in
+    let factor = c.in_ok-factor.factor in
+    let within : place < VARIABLES = omega (arith, c.requires.place) in
+    let same : SamePolynomial factor ((set (replicate VARIABLES 0) place 1, 1) ∷ []) =
+    subst (λ (m : List ℕ). SamePolynomial factor ((m, 1) ∷ [])) c.variable.ensures
+    (subst (λ n. SamePolynomial factor ((c.variable.result, n) ∷ [])) c.one.ensures c.in_ok-factor.ensures.sum)
+    in
+    product_by_variable place factor c.in_ok-moved.moved c.args.poly.now within same c.requires.nine c.requires.degree c.requires.canonical
+    c.in_ok-moved.ensures.canonical c.in_ok-moved.ensures.product
