@@ -1,7 +1,7 @@
 -- The pairs that an element forms with those before it, one by one, and the state that they lead to.
-use Rattle.std.proofs.Common.{◌≡◌, ℕ, zero, suc, ◌+◌, ◌<◌, ◌≤◌, Bool, true, false, ◌||◌, if◌then◌else◌, sum, Some, None, ◌⊎◌, inl, inr, length, get_or, take, drop, List, [], ◌∷◌, ◌++◌, sym, refl, ap, subst, ◌∙◌, add-one, append_assoc, append-nil, arith, length-append}
-use Rattle.std.specs.Prelude.{nat_eq, nat_lt}
-use Rattle.std.specs.List.{All, Contains}
+use Rattle.std.proofs.Common.{◌≡◌, ℕ, suc, ◌+◌, ◌<◌, ◌≤◌, Bool, true, false, ◌||◌, if◌then◌else◌, sum, Some, None, ◌⊎◌, inl, inr, length, get_or, drop, List, [], ◌∷◌, ◌++◌, sym, refl, ap, subst, ◌∙◌, add-one, append_assoc, append-nil, arith}
+use Rattle.std.specs.Prelude.{nat_eq}
+use Rattle.std.specs.List.{Contains}
 use Rattle.std.specs.declared.cmp.Ordering.{Ordering}
 use Rattle.std.proofs.Math.Seq.{drop-cons}
 use Rattle.std.proofs.Math.ListN.{drop_of_length-le}

@@ -1,6 +1,6 @@
 -- From a basis to the reduced one, step by step: the vectors with low leads are put in descending order, and those
 -- stay whose leads no lead of a later one divides.
-use Rattle.std.proofs.Common.{◌≡◌, ◌≢◌, ℕ, zero, suc, ◌+◌, ◌<◌, ◌≤◌, Bool, true, false, if◌then◌else◌, Option, Some, None, ◌⊎◌, inl, inr, ⊎_elim, sum, length, get_or, take, drop, List, [], ◌∷◌, ◌++◌, sym, refl, ap, subst, ◌∙◌, add-one, append_assoc, append-nil, arith}
+use Rattle.std.proofs.Common.{◌≡◌, ◌≢◌, ℕ, suc, ◌+◌, ◌<◌, ◌≤◌, Bool, true, false, if◌then◌else◌, Option, Some, None, inl, inr, ⊎_elim, sum, length, get_or, take, drop, List, [], ◌∷◌, ◌++◌, sym, refl, ap, subst, ◌∙◌, add-one, append_assoc, append-nil, arith}
 use Rattle.std.specs.List.{All, AllByRecursion, Contains}
 use Rattle.std.specs.Ordering.{is_lt}
 use Rattle.std.specs.declared.cmp.Ordering.{Ordering}
@@ -9,14 +9,14 @@ use Rattle.std.proofs.Math.Seq.{drop-cons}
 use Rattle.std.proofs.Math.ListN.{drop_of_length-le}
 use Rattle.std.proofs.lemmas.Bool.{cases_lt}
 use Rattle.std.proofs.lemmas.List.{get_or_default}
-use Rattle.std.proofs.lemmas.List.Elements.{All-contains, All-contains_itself, All-weaker, All-from_recursion, Contains-get_or, Contains-append_right}
+use Rattle.std.proofs.lemmas.List.Elements.{All-contains, All-contains_itself, All-weaker, All-from_recursion, Contains-append_right}
 use Rattle.ibp_algebra.specs.FormalSum.{AllKeys, IsCanonical}
 use Rattle.ibp_algebra.proofs.Combinations.{AllKeys-both}
 use Rattle.mono_order.specs.Term.{Term}
 use Rattle.mono_order.specs.TermOrder.{IsTermOrder}
 use Rattle.module_vec.specs.ModuleVector.{ModuleVector, lead, IsMonic, IsMonicVector}
 use Rattle.module_vec.specs.Division.{Remainder, DividesTo, first_divisor}
-use Rattle.module_basis.specs.GroebnerBasis.{low_elements, IsTailReduced}
+use Rattle.module_basis.specs.GroebnerBasis.{IsTailReduced}
 use Rattle.module_basis.specs.Reducing.{descending_place, insert_descending, Descends, IsSortedLow, IsKept}
 use Rattle.module_basis.proofs.ReducedBases.{Contains-low, from_low_elements, low_from_lead, reduced_monic, IsTailReduced-divided}
 use Rattle.module_basis.proofs.ReducedBasisExists.{Every-insert, Contains-insert, Descends-insert, length-insert, kept_dropped, kept_added}

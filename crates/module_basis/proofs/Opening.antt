@@ -1,5 +1,5 @@
 -- Pairs that are put into a queue one by one, and generators that are added one by one.
-use Rattle.std.proofs.Common.{◌≡◌, ◌≢◌, ℕ, zero, suc, ◌+◌, ◌<◌, ◌≤◌, Some, None, ◌⊎◌, inl, inr, ⊎_elim, length, get_or, drop, List, [], ◌∷◌, ◌++◌, sym, refl, ap, subst, ◌∙◌, add-one, arith, length-append}
+use Rattle.std.proofs.Common.{◌≡◌, ℕ, ◌+◌, ◌<◌, ◌≤◌, Some, None, ⊎_elim, length, get_or, drop, List, [], ◌∷◌, sym, refl, ap, subst, ◌∙◌, add-one, arith}
 use Rattle.std.specs.List.{All, Contains}
 use Rattle.std.specs.declared.cmp.Ordering.{Ordering}
 use Rattle.std.proofs.Math.Seq.{drop-cons}

@@ -21,7 +21,7 @@ use Rattle.module_vec.specs.Division.{first_divisor}
 use Rattle.module_vec.proofs.Multiples.{IsTerm-lead}
 use Rattle.module_vec.proofs.Submodules.{IsSubmodule-IsMember}
 use Rattle.module_vec.proofs.DivisionLaws.{first_divisor-some, first_divisor-none}
-use Rattle.module_basis.specs.GroebnerBasis.{IsGroebnerBasis, IsReducedBasis, IsLowMember, low_elements, IsMinimal, IsTailReduced, AscendsByLead}
+use Rattle.module_basis.specs.GroebnerBasis.{IsGroebnerBasis, IsReducedBasis, IsLowMember, low_elements, IsTailReduced}
 use Rattle.module_basis.specs.Reducing.{insert_descending, Descends, IsSortedLow, IsLowBounded, IsKept}
 use Rattle.module_basis.proofs.ReducedBases.{IsSubmodule-IsLowMember, from_low_elements, elimination, IsGroebnerBasis-leads, reduced_from_minimal, IsTailReduced-divided, low_division}
 

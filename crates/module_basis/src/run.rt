@@ -29,8 +29,8 @@ pub fn plain_run<O: TermOrder>(
     requires not_zero { All (λ g. g ≢ []) generators.now }
     requires few { length generators.now + pairs < 2 ^ 32 }
     ensures done { IfOk result (λ basis. RunsTo O.order RUN_DEGREE generators.now pairs (Done basis.elements basis.taken)) }
-    ensures spent { result ≡ Err BasisFault.PairsSpent → RunsTo O.order RUN_DEGREE generators.now pairs PairsSpent }
-    ensures over { result ≡ Err BasisFault.DegreeOver → RunsTo O.order RUN_DEGREE generators.now pairs DegreeOver }
+    ensures spent { result ≢ Err BasisFault.NoMemory → (result ≡ Err BasisFault.PairsSpent) ↔ RunsTo O.order RUN_DEGREE generators.now pairs PairsSpent }
+    ensures over { result ≢ Err BasisFault.NoMemory → (result ≡ Err BasisFault.DegreeOver) ↔ RunsTo O.order RUN_DEGREE generators.now pairs DegreeOver }
     ensures basis { IfOk result (λ basis. IsGroebnerBasis O.order (IsMember VARIABLES generators.now) basis.elements) }
 {
     let mut run = Run::opened(alloc, generators)?;

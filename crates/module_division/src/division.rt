@@ -164,11 +164,19 @@ mod tests {
         )?;
         assert!(rt; difference.terms() == meeting.terms());
         let rest = normal_form(alloc, &difference, &[first, second, third, fourth, fifth])?;
-        let sixth = vector(
+        let opposite = vector(
             alloc,
             &[(1, 1, 0, -1), (1, 0, 1, -1), (3, 1, 0, -1), (1, 0, 0, -1)],
         )?;
-        assert!(rt; rest.terms() == sixth.terms());
+        assert!(rt; rest.terms() == opposite.terms());
+        let sixth = vector(
+            alloc,
+            &[(1, 1, 0, 1), (1, 0, 1, 1), (3, 1, 0, 1), (1, 0, 0, 1)],
+        )?;
+        if rest.lead().is_none() {
+            return Err("zero")?;
+        }
+        assert!(rt; rest.monic(alloc)?.terms() == sixth.terms());
         Ok(())
     }
 

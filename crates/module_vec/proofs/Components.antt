@@ -2,6 +2,7 @@
 use Rattle.std.proofs.Common.{◌≡◌, ℕ, ◌+◌, ◌<◌, ◌≤◌, Bool, true, false, if◌then◌else◌, length, get_or, take, List, [], ◌∷◌, ◌++◌, sym, refl, ap, ◌∙◌}
 use Rattle.std.specs.Prelude.{nat_eq}
 use Rattle.std.proofs.lemmas.List.{append-nil, take_more, take_all}
+use Rattle.ibp_algebra.specs.FormalSum.{AllKeys}
 use Rattle.ibp_algebra.specs.Polynomial.{Polynomial}
 use Rattle.mono_order.specs.Term.{Term}
 use Rattle.module_vec.specs.ModuleVector.{ModuleVector, component_of}
@@ -37,3 +38,12 @@ component_left c v items new i item below is other kept h =
 
 pub component_whole : (c : ℕ) (v w : ModuleVector) (i : ℕ) → length v ≤ i → v ≡ w → component_of c (take i v) ≡ component_of c w
 component_whole c v w i done is = ap (component_of c) (take_all i v done ∙ is)
+
+component_keys_if : (P : List ℕ → Type 0) (b : Bool) (t : Term × ℕ) (f : Polynomial) → P t.0.1 → AllKeys P f → AllKeys P (if b then ((t.0.1, t.1) ∷ f) else f)
+component_keys_if P true t f p h = (p, h)
+component_keys_if P false t f p h = h
+
+-- what holds of the exponents of each term holds of those of a component
+pub component_keys : (P : List ℕ → Type 0) (i : ℕ) (v : ModuleVector) → AllKeys (λ t. P t.1) v → AllKeys P (component_of i v)
+component_keys P i [] h = tt
+component_keys P i (t ∷ v) h = component_keys_if P (nat_eq t.0.0 i) t (component_of i v) h.0 (component_keys P i v h.1)

@@ -162,7 +162,8 @@ impl<O: TermOrder> Vector<O> {
         alloc: Global,
         component: u8,
     ) -> Result<List<(Monomial, Residue)>, NoMemory>
-        ensures { IfOk result (λ terms. terms ≡ component_of component self.now) }
+        ensures terms { IfOk result (λ terms. terms ≡ component_of component self.now) }
+        ensures bounded { IfOk result (λ terms. AllKeys (λ m. sum m ≤ RUN_DEGREE) terms) }
     {
         let mut terms = Vec::new(alloc);
         for (term, value) in self.terms() {

@@ -1,4 +1,4 @@
-use Rattle.std.proofs.Common.{◌≡◌, ◌++◌, ◌∷◌, [], true, false, None, List, sym, subst, ap, ◌∙◌}
+use Rattle.std.proofs.Common.{◌≡◌, ◌++◌, ◌∷◌, [], true, false, None, List, sym, subst, ◌∙◌}
 use Rattle.std.specs.List.{All}
 use Rattle.module_vec.specs.ModuleVector.{ModuleVector, lead, IsMonic}
 use Rattle.module_vec.specs.Division.{first_divisor}

@@ -4,7 +4,7 @@ use Rattle.ibp_algebra.specs.FormalSum.{AllKeys, IsCanonical}
 use Rattle.mono_order.specs.Term.{Term}
 use Rattle.mono_order.specs.declared.limits.TheConstants.{VARIABLES, RUN_DEGREE}
 use Rattle.module_vec.specs.ModuleVector.{ModuleVector}
-use Rattle.module_vec.specs.Division.{Remainder, DividesTo, is_over_degree}
+use Rattle.module_vec.specs.Division.{is_over_degree}
 use Rattle.module_vec.proofs.Degrees.{within-AllKeys}
 use Rattle.module_basis.specs.GroebnerBasis.{IsTailReduced}
 use Rattle.module_basis.proofs.Keeping.{tail_low, tail_reduced_to}

@@ -1,21 +1,36 @@
-use Rattle.std.proofs.Common.{◌≡◌, ◌≢◌, [], List, sym, subst, rules, arith}
+use Rattle.std.proofs.Common.{◌≡◌, ◌≢◌, ◌↔◌, [], List, Err, sym, subst, rules, arith}
 use Rattle.mono_order.specs.declared.limits.TheConstants.{VARIABLES, RUN_DEGREE}
 use Rattle.module_vec.specs.ModuleVector.{ModuleVector, IsMember}
 use Rattle.module_basis.specs.GroebnerBasis.{IsGroebnerBasis}
-use Rattle.module_basis.specs.PlainRun.{TakesFirst, Over}
+use Rattle.module_basis.specs.PlainRun.{TakesFirst, Over, RunsTo, Done, PairsSpent, DegreeOver}
+use Rattle.module_basis.specs.declared.fault.BasisFault.TheVariants as faults
+use Rattle.module_basis.proofs.RunEnds.{RunsTo-apart, fault_tells}
 use Rattle.module_basis.proofs.RunLaws.{run_groebner}
-use Rattle.module_basis.proofs.RunSteps.{IsUnderWay-opened, IsUnderWay-next, IsUnderWay-stopped, IsUnderWay-done}
+use Rattle.module_basis.proofs.RunSteps.{IsUnderWay-opened, IsUnderWay-next, IsUnderWay-stopped, IsUnderWay-spent, IsUnderWay-done}
 use Rattle.module_basis.proofs.Stepping.{run_own_basis}
+use Rattle.module_basis.proofs.run.plain_run.Given as given
 use Rattle.module_basis.proofs.run.plain_run.Goals as goal
 
 pub pairs-init : goal.pairs-init
 pairs-init g c = IsUnderWay-opened g.O.TermOrder.order RUN_DEGREE c.args.generators.now c.args.pairs c.in_ok-run.run' c.in_ok-run.ensures.opens
 
-pub returns-in_err-run-2-clause-over : goal.returns-in_err-run-2-clause-over
-returns-in_err-run-2-clause-over g c = λ e.
-    let over : TakesFirst g.O.TermOrder.order RUN_DEGREE c.pairs.run Over = search rules in
+-- what a fault of a step tells
+stepped_tells : (g : given.Over) (c : goal.After-from_residual-in_err-run-2 g) → c.from_residual-in_err-run-2.result ≢ Err faults.NoMemory
+    → ((c.from_residual-in_err-run-2.result ≡ Err faults.PairsSpent) ↔ RunsTo g.O.TermOrder.order RUN_DEGREE c.args.generators.now c.args.pairs PairsSpent)
+    × ((c.from_residual-in_err-run-2.result ≡ Err faults.DegreeOver) ↔ RunsTo g.O.TermOrder.order RUN_DEGREE c.args.generators.now c.args.pairs DegreeOver)
+stepped_tells g c =
     let apart : c.pairs.run.taken ≢ c.args.pairs = λ same. omega (arith, same, c.taken.ensures, c.if-taken-pairs.false) in
-    IsUnderWay-stopped g.O.TermOrder.order RUN_DEGREE c.args.generators.now c.args.pairs c.pairs.run c.pairs.invariant apart over
+    fault_tells g.O.TermOrder.order RUN_DEGREE c.args.generators.now c.args.pairs c.in_err-run-2.field-0.0 c.from_residual-in_err-run-2.result (search rules)
+    (λ e.
+    let over : TakesFirst g.O.TermOrder.order RUN_DEGREE c.pairs.run Over = search rules in
+    IsUnderWay-stopped g.O.TermOrder.order RUN_DEGREE c.args.generators.now c.args.pairs c.pairs.run c.pairs.invariant apart over)
+    (λ e. search rules)
+
+pub returns-in_err-run-2-clause-spent : goal.returns-in_err-run-2-clause-spent
+returns-in_err-run-2-clause-spent g c = λ memory. (stepped_tells g c memory).0
+
+pub returns-in_err-run-2-clause-over : goal.returns-in_err-run-2-clause-over
+returns-in_err-run-2-clause-over g c = λ memory. (stepped_tells g c memory).1
 
 pub pairs-preserved : goal.pairs-preserved
 pairs-preserved g c =
@@ -34,3 +49,22 @@ returns-clause-basis g c =
     subst (λ (l : List ModuleVector). IsGroebnerBasis g.O.TermOrder.order (IsMember VARIABLES c.args.generators.now) l) (sym c.finished.ensures.elements)
     (run_groebner g.met.O.TermOrder.laws c.args.generators.now c.in_ok-run.ensures.vectors c.requires.not_zero RUN_DEGREE c.args.pairs c.pairs.run.elements c.pairs.run.taken
     (IsUnderWay-done g.O.TermOrder.order RUN_DEGREE c.args.generators.now c.args.pairs c.pairs.run c.pairs.invariant none))
+
+pub returns-then-taken-pairs-clause-over : goal.returns-then-taken-pairs-clause-over
+returns-then-taken-pairs-clause-over g c = λ memory.
+    let left : c.pairs.run.pairs ≢ [] = search rules in
+    let spent = IsUnderWay-spent g.O.TermOrder.order RUN_DEGREE c.args.generators.now c.args.pairs c.pairs.run c.pairs.invariant (omega (arith, c.taken.ensures, c.if-taken-pairs.true)) left in
+    (λ e. absurd (let clash : ⊥ = cc in clash), λ h. absurd (RunsTo-apart g.O.TermOrder.order RUN_DEGREE c.args.generators.now c.args.pairs PairsSpent DegreeOver spent (λ e. cc) h))
+
+done_at_end : (g : given.Over) (c : goal.After-finished g) → RunsTo g.O.TermOrder.order RUN_DEGREE c.args.generators.now c.args.pairs (Done c.pairs.run.elements c.pairs.run.taken)
+done_at_end g c =
+    let none : c.pairs.run.pairs ≡ [] = search rules in
+    IsUnderWay-done g.O.TermOrder.order RUN_DEGREE c.args.generators.now c.args.pairs c.pairs.run c.pairs.invariant none
+
+pub returns-clause-spent : goal.returns-clause-spent
+returns-clause-spent g c = λ memory.
+    (λ e. absurd (let clash : ⊥ = cc in clash), λ h. absurd (RunsTo-apart g.O.TermOrder.order RUN_DEGREE c.args.generators.now c.args.pairs _ PairsSpent (done_at_end g c) (λ e. cc) h))
+
+pub returns-clause-over : goal.returns-clause-over
+returns-clause-over g c = λ memory.
+    (λ e. absurd (let clash : ⊥ = cc in clash), λ h. absurd (RunsTo-apart g.O.TermOrder.order RUN_DEGREE c.args.generators.now c.args.pairs _ DegreeOver (done_at_end g c) (λ e. cc) h))

@@ -1,7 +1,10 @@
-use Rattle.std.proofs.Common.{◌≡◌, ◌≢◌, ◌∙◌, sym, ap}
+use Rattle.std.proofs.Common.{◌≡◌, ◌≢◌, ◌≤◌, sum, ◌∙◌, sym, ap, subst}
 use Rattle.std.proofs.lemmas.Bool.{eq-eqb, ne_eqb}
 use Rattle.mono_order.specs.Term.{Term}
-use Rattle.module_vec.proofs.Components.{component_taken, component_left, component_whole}
+use Rattle.module_vec.proofs.Components.{component_taken, component_left, component_whole, component_keys}
+use Rattle.ibp_algebra.specs.FormalSum.{AllKeys}
+use Rattle.mono_order.specs.declared.limits.TheConstants.{RUN_DEGREE}
+use Rattle.module_vec.specs.ModuleVector.{component_of}
 use Rattle.module_vec.proofs.vector.Vector.component.Goals as goal
 use Rattle.module_vec.proofs.vector.Vector.component.Goals.{then-term-component+in_ok-push, else-term-component}
 
@@ -19,5 +22,12 @@ loop-term-preserved g c =
           (ne_eqb _ _ other) (ap (λ v. v.items) w.terms-is) c.loop-term.invariant
     ]
 
-pub returns : goal.returns
-returns g c = c.from_vec.ensures ∙ c.loop-term.invariant ∙ component_whole c.args.component _ c.args.self.now _ c.loop-term-test.false c.terms-term-items.ensures.same
+pub returns-clause-terms : goal.returns-clause-terms
+returns-clause-terms g c = c.from_vec.ensures ∙ c.loop-term.invariant ∙ component_whole c.args.component _ c.args.self.now _ c.loop-term-test.false c.terms-term-items.ensures.same
+
+pub returns-clause-bounded : goal.returns-clause-bounded
+returns-clause-bounded g c =
+    let is : c.from_vec.result ≡ component_of c.args.component c.args.self.now =
+    c.from_vec.ensures ∙ c.loop-term.invariant ∙ component_whole c.args.component _ c.args.self.now _ c.loop-term-test.false c.terms-term-items.ensures.same
+    in
+    subst (AllKeys (λ m. sum m ≤ RUN_DEGREE)) (sym is) (component_keys (λ m. sum m ≤ RUN_DEGREE) c.args.component c.args.self.now c.terms-term-items.ensures.bounded)
