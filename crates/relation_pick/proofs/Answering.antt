@@ -1,5 +1,5 @@
 -- The answers for the targets in turn, and the places that their weights name.
-use Rattle.std.proofs.Common.{◌≡◌, ◌≢◌, ◌⊎◌, inl, inr, ℕ, zero, suc, ◌%◌, ◌<◌, List, [], ◌∷◌, ◌++◌, if◌then◌else◌, length, get_or, sym, refl, ap, subst, ◌∙◌, ⊎_elim, arith}
+use Rattle.std.proofs.Common.{◌≡◌, ◌≢◌, inl, inr, ℕ, zero, suc, ◌%◌, ◌<◌, List, [], ◌∷◌, ◌++◌, if◌then◌else◌, length, get_or, sym, refl, ap, subst, ◌∙◌, arith}
 use Rattle.std.specs.Bool.{one_answer}
 use Rattle.std.specs.Ordering.{eq_by_cmp, nat_cmp}
 use Rattle.std.specs.declared.cmp.Ordering.{Ordering}
@@ -9,28 +9,28 @@ use Rattle.ibp_algebra.specs.FormalSum.{FormalSum, AllKeys, IsCanonical}
 use Rattle.ibp_algebra.proofs.Weights.{weighted_sum-ext, unit_weight}
 use Rattle.ibp_algebra.proofs.SumLaws.{SameCoefficients-refl, SameCoefficients-trans, SameCoefficients-append}
 use Rattle.ibp_algebra.specs.Combination.{combination}
-use Rattle.ibp_algebra.specs.Spans.{row_at, SameSum, coefficient_by}
+use Rattle.ibp_algebra.specs.Spans.{row_at, SameSum, coefficient_by, IsReducedForm}
 use Rattle.ibp_algebra.proofs.Lookups.{coefficient-at_place}
 use Rattle.ibp_algebra.proofs.Members.{order_decides, AllKeys-counting}
 use Rattle.ibp_algebra.proofs.Combinations.{AllKeys-weaker}
 use Rattle.ibp_algebra.proofs.ReducedForms.{IsReducedForm-unique}
 use Rattle.ibp_algebra.proofs.Independence.{weights_unique}
 use Rattle.row_echelon.specs.Echelons.{number_cmp}
-use Rattle.relation_pick.specs.Picking.{IsInBasis, IsNeededFor, IsWritten, IsAnswer, AllAnswers}
-use Rattle.relation_pick.specs.Marks.{IsNamed}
+use Rattle.relation_pick.specs.Picking.{WholeSpan, IsInBasis, IsExpression, IsNeededFor, IsWritten, IsAnswer, AllAnswers}
+use Rattle.relation_pick.specs.Marks.{IsNamed, AnyNamed}
 use Rattle.relation_pick.proofs.Basis.{nat_decides}
 use Rattle.relation_pick.proofs.PickLaws.{IsIndependent-basis}
 
 -- ---- the names of canonical weights
 
-number_total : IsTotalOrder number_cmp
+pub number_total : IsTotalOrder number_cmp
 number_total = back_total nat_cmp_total
 
-number_unique : IsAntisymmetric number_cmp
+pub number_unique : IsAntisymmetric number_cmp
 number_unique a b e = sym (nat_cmp-IsAntisymmetric b a e)
 
 -- both orders tie at equal numbers alone
-same_coefficient : (f : FormalSum ℕ) (k : ℕ) → coefficient_by number_cmp f k ≡ coefficient_by nat_cmp f k
+pub same_coefficient : (f : FormalSum ℕ) (k : ℕ) → coefficient_by number_cmp f k ≡ coefficient_by nat_cmp f k
 same_coefficient f k =
     ap (λ n. n % 2147483647)
     (weighted_sum-ext (unit_weight (eq_by_cmp number_cmp) k) (unit_weight (eq_by_cmp nat_cmp) k)
@@ -55,7 +55,7 @@ named_counts f k h named none =
     let zero_there : coefficient_by number_cmp f (get_or f place.0 t).0 ≡ 0 = ap (coefficient_by number_cmp f) (place.2 t) ∙ same_coefficient f k ∙ none in
     omega (arith, value, zero_there, values_positive f place.0 t h place.1)
 
-own_names : (f : FormalSum ℕ) → AllKeys (IsNamed f) f
+pub own_names : (f : FormalSum ℕ) → AllKeys (IsNamed f) f
 own_names [] = tt
 own_names (t ∷ f) = (inl refl, AllKeys-weaker (IsNamed f) (IsNamed (t ∷ f)) (λ k later. inr later) f (own_names f))
 
@@ -64,25 +64,6 @@ pub counting_named : (f : FormalSum ℕ) (k : ℕ) → coefficient_by nat_cmp f 
 counting_named f k counts = AllKeys-counting nat_cmp nat_cmp_total nat_cmp-IsAntisymmetric (IsNamed f) f (own_names f) k counts
 
 -- ---- the answers in turn
-
--- some weights have the name
-abbrev pub AnyNamed : List (FormalSum ℕ) → ℕ → Type 0
-AnyNamed [] k = ⊥
-AnyNamed (weights ∷ others) k = IsNamed weights k ⊎ AnyNamed others k
-
-pub AnyNamed-push : (all : List (FormalSum ℕ)) (w : FormalSum ℕ) (k : ℕ) → AnyNamed all k ⊎ IsNamed w k → AnyNamed (all ++ w ∷ []) k
-AnyNamed-push [] w k (inl old) = absurd old
-AnyNamed-push [] w k (inr new) = inl new
-AnyNamed-push (v ∷ all) w k (inl (inl first)) = inl first
-AnyNamed-push (v ∷ all) w k (inl (inr later)) = inr (AnyNamed-push all w k (inl later))
-AnyNamed-push (v ∷ all) w k (inr new) = inr (AnyNamed-push all w k (inr new))
-
-pub AnyNamed-cases : (all : List (FormalSum ℕ)) (w : FormalSum ℕ) (k : ℕ) → AnyNamed (all ++ w ∷ []) k → AnyNamed all k ⊎ IsNamed w k
-AnyNamed-cases [] w k (inl here) = inr here
-AnyNamed-cases [] w k (inr later) = absurd later
-AnyNamed-cases (v ∷ all) w k (inl first) = inl (inl first)
-AnyNamed-cases (v ∷ all) w k (inr later) =
-    ⊎_elim (λ (old : AnyNamed all k). inl (inr old)) (λ (new : IsNamed w k). inr new) (AnyNamed-cases all w k later)
 
 module _ {K : Type 0} (order : K → K → Ordering) (candidates : List (FormalSum K)) where
   pub AllAnswers-push : (targets forms : List (FormalSum K)) (all : List (FormalSum ℕ)) (target form : FormalSum K) (weights : FormalSum ℕ)
@@ -112,19 +93,23 @@ module _ {K : Type 0} (order : K → K → Ordering) (candidates : List (FormalS
 
   module _ (total : IsTotalOrder order) (unique : IsAntisymmetric order) where
     -- the weights for a target are unique
+    pub weights_alike : (target form other : FormalSum K) (weights more : FormalSum ℕ)
+        → IsReducedForm order (WholeSpan order candidates) target form → IsExpression order candidates target form weights
+        → IsReducedForm order (WholeSpan order candidates) target other → IsExpression order candidates target other more → SameSum nat_cmp weights more
+    weights_alike target form other weights more reduced expressed reduced' expressed' =
+        let forms_alike : SameSum order other form =
+        IsReducedForm-unique order total unique (row_at candidates) (λ j. j < length candidates) target other form reduced' reduced
+        in
+        let along : SameSum order target (form ++ combination (row_at candidates) more) =
+        SameCoefficients-trans expressed'.equal
+        (SameCoefficients-append (eq_by_cmp order) (order_decides order total unique) forms_alike (SameCoefficients-refl (eq_by_cmp order) (combination (row_at candidates) more)))
+        in
+        weights_unique order total unique nat_cmp (row_at candidates) (IsInBasis order candidates) (IsIndependent-basis order total unique candidates) target form
+        weights more expressed.basis expressed'.basis expressed.equal along
+
     needed_named : (target form : FormalSum K) (weights : FormalSum ℕ) (k : ℕ) → IsAnswer order candidates target form weights → IsNeededFor order candidates target k → IsNamed weights k
     needed_named target form weights k h needed =
-        let forms_alike : SameSum order needed.form form =
-        IsReducedForm-unique order total unique (row_at candidates) (λ j. j < length candidates) target needed.form form needed.reduced h.reduced
-        in
-        let other : SameSum order target (form ++ combination (row_at candidates) needed.weights) =
-        SameCoefficients-trans needed.expressed.equal
-        (SameCoefficients-append (eq_by_cmp order) (order_decides order total unique) forms_alike (SameCoefficients-refl (eq_by_cmp order) (combination (row_at candidates) needed.weights)))
-        in
-        let alike : SameSum nat_cmp weights needed.weights =
-        weights_unique order total unique nat_cmp (row_at candidates) (IsInBasis order candidates) (IsIndependent-basis order total unique candidates) target form
-        weights needed.weights h.expressed.basis needed.expressed.basis h.expressed.equal other
-        in
+        let alike : SameSum nat_cmp weights needed.weights = weights_alike target form needed.form weights needed.weights h.reduced h.expressed needed.reduced needed.expressed in
         counting_named weights k (λ none. needed.counts (sym (alike.same_at k) ∙ none))
 
     -- what is written is a name

@@ -1,67 +1,37 @@
--- From the answers and the marks to the pick and its laws.
-use Rattle.std.proofs.Common.{◌≡◌, ◌≢◌, inl, inr, ℕ, zero, suc, ◌+◌, ◌<◌, ◌≤◌, Bool, true, false, Option, Some, None, List, [], ◌∷◌, ◌++◌, length, get_or, take, sym, ap, subst, ◌∙◌, ⊎_elim, arith}
-use Rattle.std.specs.Prelude.{Contains, replicate}
+-- From the answers and the names of their weights to the pick and its laws.
+use Rattle.std.proofs.Common.{◌≡◌, ◌≢◌, ℕ, zero, suc, ◌+◌, ◌<◌, ◌≤◌, List, [], ◌∷◌, ◌++◌, length, get_or, take, sym, ap, subst, ◌∙◌, arith}
+use Rattle.std.specs.Prelude.{Contains}
 use Rattle.std.specs.Ordering.{eq_by_cmp, nat_cmp}
 use Rattle.std.specs.declared.cmp.Ordering.{Ordering}
 use Rattle.std.specs.Cmp.{IsTotalOrder}
 use Rattle.std.specs.FinMap.{IsAntisymmetric}
 use Rattle.std.proofs.lemmas.List.{take_more, take_all}
-use Rattle.ibp_algebra.specs.FormalSum.{FormalSum, AllKeys}
+use Rattle.ibp_algebra.specs.FormalSum.{FormalSum}
 use Rattle.ibp_algebra.proofs.SumLaws.{SameCoefficients-refl, SameCoefficients-trans, SameCoefficients-append}
 use Rattle.ibp_algebra.specs.Combination.{combination}
 use Rattle.ibp_algebra.specs.Spans.{row_at, SameSum, IsReducedForm}
 use Rattle.ibp_algebra.proofs.Members.{order_decides, InSpan-along}
-use Rattle.ibp_algebra.proofs.Combinations.{AllKeys-weaker}
 use Rattle.ibp_algebra.proofs.ReducedForms.{IsReducedForm-unique, IsReducedForm-along}
 use Rattle.ibp_algebra.proofs.Independence.{IsIndependent-along}
-use Rattle.relation_pick.specs.Picking.{SpanOf, WholeSpan, SpanWithout, IsInBasis, IsExpression, IsWritten, IsAnswer, AllAnswers, IsPick, IsIrredundant}
-use Rattle.relation_pick.specs.Marks.{IsMarked, IsNamed, Marks, ListsMarked}
-use Rattle.relation_pick.proofs.PickLaws.{IsIndependent-written, IsReducedForm-written, DependsOn-written}
-use Rattle.relation_pick.proofs.Answering.{AnyNamed, AnyNamed-push, AnyNamed-cases, AllAnswers-push, written_from_name, named_from_written}
+use Rattle.relation_pick.specs.Picking.{SpanOf, WholeSpan, SpanWithout, IsExpression, IsWritten, IsAnswer, AllAnswers, IsPick, IsIrredundant}
+use Rattle.relation_pick.specs.Marks.{AnyNamed, ListsNamed}
+use Rattle.relation_pick.proofs.PickLaws.{written_in_basis, IsIndependent-written, IsReducedForm-written, DependsOn-written}
+use Rattle.relation_pick.proofs.Answering.{AllAnswers-push, written_from_name, named_from_written}
 
 module _ {K : Type 0} (order : K → K → Ordering) (candidates : List (FormalSum K)) where
-  -- the first n targets are answered, and the marked places are those that their weights name
-  pub record Answered (targets : List (FormalSum K)) (n : ℕ) (forms : List (FormalSum K)) (all : List (FormalSum ℕ)) (marks : List Bool) : Type 0 where
-    pub answers : AllAnswers order candidates (take n targets) forms all
-    pub named : (k : ℕ) → IsMarked marks k → AnyNamed all k
-    pub marked : (k : ℕ) → AnyNamed all k → IsMarked marks k
-    pub room : length marks ≡ length candidates
-
-  none_marked : (n k : ℕ) → IsMarked (replicate n false) k → ⊥
-  none_marked zero k h = let clash : ◌≡◌ {A = Option Bool} None (Some true) = h in cc
-  none_marked (suc n) zero h = let clash : Some false ≡ Some true = h in cc
-  none_marked (suc n) (suc k) h = none_marked n k h
-
-  pub Answered-start : (targets : List (FormalSum K)) (marks : List Bool) (n : ℕ) → marks ≡ replicate n false → length marks ≡ length candidates → Answered targets 0 [] [] marks
-  Answered-start targets marks n is room = record {
-    answers = tt;
-    named = λ k h. absurd (none_marked n k (subst (λ (m : List Bool). IsMarked m k) is h));
-    marked = λ k h. absurd h;
-    room = room;
-  }
-
-  -- the places of the weights of an answer lie among the candidates
-  pub names_listed : (target form : FormalSum K) (weights : FormalSum ℕ) (n : ℕ) → n ≡ length candidates → IsAnswer order candidates target form weights → AllKeys (λ k. k < n) weights
-  names_listed target form weights n is h =
-      AllKeys-weaker (IsInBasis order candidates) (λ k. k < n) (λ k basis. subst (λ m. k < m) (sym is) basis.listed) weights h.expressed.basis
-
-  pub Answered-step : (targets : List (FormalSum K)) (n : ℕ) (forms : List (FormalSum K)) (all : List (FormalSum ℕ)) (old new : List Bool) (target form : FormalSum K) (weights : FormalSum ℕ)
-      → n < length targets → target ≡ get_or targets n target → IsAnswer order candidates target form weights → Marks old new weights → length new ≡ length old
-      → Answered targets n forms all old → Answered targets (n + 1) (forms ++ form ∷ []) (all ++ weights ∷ []) new
-  Answered-step targets n forms all old new target form weights within is answer marks same h =
+  pub AllAnswers-step : (targets : List (FormalSum K)) (n : ℕ) (forms : List (FormalSum K)) (all : List (FormalSum ℕ)) (target form : FormalSum K) (weights : FormalSum ℕ)
+      → n < length targets → target ≡ get_or targets n target → IsAnswer order candidates target form weights
+      → AllAnswers order candidates (take n targets) forms all → AllAnswers order candidates (take (n + 1) targets) (forms ++ form ∷ []) (all ++ weights ∷ [])
+  AllAnswers-step targets n forms all target form weights within is answer h =
       let longer : take (n + 1) targets ≡ take n targets ++ target ∷ [] =
       take_more targets n target within ∙ ap (λ (t : FormalSum K). take n targets ++ t ∷ []) (sym is)
       in
-      record {
-        answers = subst (λ (ts : List (FormalSum K)). AllAnswers order candidates ts (forms ++ form ∷ []) (all ++ weights ∷ [])) (sym longer)
-            (AllAnswers-push order candidates (take n targets) forms all target form weights h.answers answer);
-        named = λ k marked.
-            AnyNamed-push all weights k
-            (⊎_elim (λ (before : IsMarked old k). inl (h.named k before)) (λ (here : IsNamed weights k). inr here) (marks.others k marked));
-        marked = λ k named.
-            ⊎_elim (λ (before : AnyNamed all k). marks.kept k (h.marked k before)) (λ (here : IsNamed weights k). marks.names k here) (AnyNamed-cases all weights k named);
-        room = same ∙ h.room;
-      }
+      subst (λ (ts : List (FormalSum K)). AllAnswers order candidates ts (forms ++ form ∷ []) (all ++ weights ∷ [])) (sym longer)
+      (AllAnswers-push order candidates (take n targets) forms all target form weights h answer)
+
+  pub AllAnswers-whole : (targets : List (FormalSum K)) (n : ℕ) (forms : List (FormalSum K)) (all : List (FormalSum ℕ)) → length targets ≤ n
+      → AllAnswers order candidates (take n targets) forms all → AllAnswers order candidates targets forms all
+  AllAnswers-whole targets n forms all long h = subst (λ (ts : List (FormalSum K)). AllAnswers order candidates ts forms all) (take_all n targets long) h
 
   answer_at : (targets forms : List (FormalSum K)) (all : List (FormalSum ℕ)) (i : ℕ) (target : FormalSum K) → AllAnswers order candidates targets forms all
       → i < length targets → get_or targets i target ≡ target → (form : FormalSum K) × (weights : FormalSum ℕ) × IsAnswer order candidates target form weights
@@ -77,17 +47,18 @@ module _ {K : Type 0} (order : K → K → Ordering) (candidates : List (FormalS
     span_along : (P Q : ℕ → Type 0) → ((k : ℕ) → P k → Q k) → (f : FormalSum K) → SpanOf order candidates P f → SpanOf order candidates Q f
     span_along P Q h f member = InSpan-along order total unique (row_at candidates) P Q h member
 
-    pub IsPick-whole : (n : ℕ) (forms : List (FormalSum K)) (all : List (FormalSum ℕ)) (marks : List Bool) (written : List ℕ) → length targets ≤ n
-        → Answered targets n forms all marks → ListsMarked marks written → IsPick order candidates targets written forms all
-    IsPick-whole n forms all marks written long h listed =
-        let answers : AllAnswers order candidates targets forms all =
-        subst (λ (ts : List (FormalSum K)). AllAnswers order candidates ts forms all) (take_all n targets long) h.answers
-        in
+    -- the names of the weights are places of candidates
+    pub names_listed : (forms : List (FormalSum K)) (all : List (FormalSum ℕ)) → AllAnswers order candidates targets forms all → (k : ℕ) → AnyNamed all k → k < length candidates
+    names_listed forms all answers k named = (written_in_basis order total unique candidates targets k (written_from_name order candidates targets forms all k answers named)).listed
+
+    pub IsPick-whole : (forms : List (FormalSum K)) (all : List (FormalSum ℕ)) (written : List ℕ) → AllAnswers order candidates targets forms all → ListsNamed all written
+        → IsPick order candidates targets written forms all
+    IsPick-whole forms all written answers listed =
         record {
           ascends = listed.ascends;
           lists = λ k. (
-            λ there. written_from_name order candidates targets forms all k answers (h.named k (listed.lists k there)),
-            λ needed. listed.all k (h.marked k (named_from_written order candidates total unique targets forms all k answers needed)),
+            λ there. written_from_name order candidates targets forms all k answers (listed.lists k there),
+            λ needed. listed.all_named k (named_from_written order candidates total unique targets forms all k answers needed),
           );
           answers = answers;
         }

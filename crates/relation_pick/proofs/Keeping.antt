@@ -107,11 +107,12 @@ module _ (candidates : List IntegralSum) (kept : KeptRows) (h : KeepsBasis candi
       InSpan-trans integral_cmp integral_cmp_total same_integrals (row_numbered kept) (IsNumber kept) (row_at candidates) (λ k. k < length candidates) h.spans member
 
   -- what the echelon answers is the answer for the target
-  pub IsAnswer-from_reduce : (target form : IntegralSum) (weights : FormalSum ℕ) → IsReducedForm integral_cmp (InKeptSpan kept) target form
+  pub IsAnswer-from_reduce : (target form : IntegralSum) (weights : FormalSum ℕ) → IsReducedForm integral_cmp (InKeptSpan kept) target form → IsCanonical integral_cmp form
       → SameRow target (form ++ combination (row_numbered kept) weights) → AllKeys (IsNumber kept) weights → IsCanonical number_cmp weights
       → IsAnswer integral_cmp candidates target form weights
-  IsAnswer-from_reduce target form weights reduced sum numbers ascending = record {
+  IsAnswer-from_reduce target form weights reduced canonical sum numbers ascending = record {
     reduced = IsReducedForm-along integral_cmp (InKeptSpan kept) (WholeSpan integral_cmp candidates) whole_from_kept kept_from_whole target form reduced;
+    canonical = canonical;
     expressed = record {
       basis = AllKeys-weaker (IsNumber kept) (IsInBasis integral_cmp candidates) h.basis weights numbers;
       equal = SameCoefficients-trans sum

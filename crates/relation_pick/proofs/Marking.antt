@@ -1,13 +1,13 @@
 -- Marks that are set one after another, and the list of the marked places.
 use Rattle.std.proofs.Common.{◌≡◌, ◌⊎◌, inl, inr, ℕ, zero, suc, ◌+◌, ◌<◌, ◌≤◌, Bool, true, false, Option, Some, None, List, [], ◌∷◌, ◌++◌, length, get_or, take, length-append, sym, refl, ap, subst, ◌∙◌, ⊎_elim, arith}
-use Rattle.std.specs.Prelude.{Contains, slice_get, slice_set}
+use Rattle.std.specs.Prelude.{Contains, replicate, slice_get, slice_set}
 use Rattle.std.specs.List.Sorted.{IsStrictlyIncreasing}
 use Rattle.std.proofs.lemmas.Bool.{cases_lt}
 use Rattle.std.proofs.lemmas.List.{take_more, take_all, get_or_append_left, get_or_push}
 use Rattle.std.proofs.lemmas.List.Elements.{Contains-append_left, Contains-get_or, Contains-push, Contains-push_cases}
 use Rattle.std.proofs.lemmas.Option.{slice_get_within}
 use Rattle.ibp_algebra.specs.FormalSum.{FormalSum}
-use Rattle.relation_pick.specs.Marks.{IsMarked, IsNamed, Marks, ListsMarked}
+use Rattle.relation_pick.specs.Marks.{IsMarked, IsNamed, AnyNamed, Marks, ListsMarked, ListsNamed}
 
 set_here : (marks : List Bool) (p : ℕ) → p < length marks → IsMarked (slice_set marks p true) p
 set_here [] p within = absurd (omega arith)
@@ -138,3 +138,61 @@ ListsBelow-whole marks n places long h = record {
   lists = λ k listed. (h.lists k listed).1;
   all = λ k marked. h.all k (omega (arith, slice_get_within marks k true marked)) marked;
 }
+
+-- ---- the places that lists of weights name
+
+pub AnyNamed-push : (all : List (FormalSum ℕ)) (w : FormalSum ℕ) (k : ℕ) → AnyNamed all k ⊎ IsNamed w k → AnyNamed (all ++ w ∷ []) k
+AnyNamed-push [] w k (inl old) = absurd old
+AnyNamed-push [] w k (inr new) = inl new
+AnyNamed-push (v ∷ all) w k (inl (inl first)) = inl first
+AnyNamed-push (v ∷ all) w k (inl (inr later)) = inr (AnyNamed-push all w k (inl later))
+AnyNamed-push (v ∷ all) w k (inr new) = inr (AnyNamed-push all w k (inr new))
+
+pub AnyNamed-cases : (all : List (FormalSum ℕ)) (w : FormalSum ℕ) (k : ℕ) → AnyNamed (all ++ w ∷ []) k → AnyNamed all k ⊎ IsNamed w k
+AnyNamed-cases [] w k (inl here) = inr here
+AnyNamed-cases [] w k (inr later) = absurd later
+AnyNamed-cases (v ∷ all) w k (inl first) = inl (inl first)
+AnyNamed-cases (v ∷ all) w k (inr later) =
+    ⊎_elim (λ (old : AnyNamed all k). inl (inr old)) (λ (new : IsNamed w k). inr new) (AnyNamed-cases all w k later)
+
+none_marked : (n k : ℕ) → IsMarked (replicate n false) k → ⊥
+none_marked zero k h = let clash : ◌≡◌ {A = Option Bool} None (Some true) = h in cc
+none_marked (suc n) zero h = let clash : Some false ≡ Some true = h in cc
+none_marked (suc n) (suc k) h = none_marked n k h
+
+-- the marked places are those that the first n lists name
+pub record MarksNamed (all : List (FormalSum ℕ)) (n : ℕ) (marks : List Bool) : Type 0 where
+  pub named : (k : ℕ) → IsMarked marks k → AnyNamed (take n all) k
+  pub marked : (k : ℕ) → AnyNamed (take n all) k → IsMarked marks k
+
+pub MarksNamed-start : (all : List (FormalSum ℕ)) (count : ℕ) → MarksNamed all 0 (replicate count false)
+MarksNamed-start all count = record { named = λ k h. absurd (none_marked count k h); marked = λ k h. absurd h }
+
+pub MarksNamed-step : (all : List (FormalSum ℕ)) (n : ℕ) (old new : List Bool) (weights : FormalSum ℕ) → n < length all → weights ≡ get_or all n weights
+    → Marks old new weights → MarksNamed all n old → MarksNamed all (n + 1) new
+MarksNamed-step all n old new weights within is marks h =
+    let longer : take (n + 1) all ≡ take n all ++ weights ∷ [] = take_more all n weights within ∙ ap (λ (w : FormalSum ℕ). take n all ++ w ∷ []) (sym is) in
+    record {
+      named = λ k marked.
+          subst (λ (ws : List (FormalSum ℕ)). AnyNamed ws k) (sym longer)
+          (AnyNamed-push (take n all) weights k
+          (⊎_elim (λ (before : IsMarked old k). inl (h.named k before)) (λ (here : IsNamed weights k). inr here) (marks.others k marked)));
+      marked = λ k named.
+          ⊎_elim (λ (before : AnyNamed (take n all) k). marks.kept k (h.marked k before)) (λ (here : IsNamed weights k). marks.names k here)
+          (AnyNamed-cases (take n all) weights k (subst (λ (ws : List (FormalSum ℕ)). AnyNamed ws k) longer named));
+    }
+
+pub ListsNamed-whole : (all : List (FormalSum ℕ)) (n : ℕ) (marks : List Bool) (places : List ℕ) → length all ≤ n → MarksNamed all n marks → ListsMarked marks places → ListsNamed all places
+ListsNamed-whole all n marks places long h listed =
+    let whole : take n all ≡ all = take_all n all long in
+    record {
+      ascends = listed.ascends;
+      lists = λ k there. subst (λ (ws : List (FormalSum ℕ)). AnyNamed ws k) whole (h.named k (listed.lists k there));
+      all_named = λ k named. listed.all k (h.marked k (subst (λ (ws : List (FormalSum ℕ)). AnyNamed ws k) (sym whole) named));
+    }
+
+-- a name in a list at a place is one of all names
+pub AnyNamed-at : (all : List (FormalSum ℕ)) (n : ℕ) (weights : FormalSum ℕ) (k : ℕ) → n < length all → weights ≡ get_or all n weights → IsNamed weights k → AnyNamed all k
+AnyNamed-at [] n weights k within is named = absurd (omega arith)
+AnyNamed-at (w ∷ all) zero weights k within is named = inl (subst (λ (v : FormalSum ℕ). IsNamed v k) is named)
+AnyNamed-at (w ∷ all) (suc n) weights k within is named = inr (AnyNamed-at all n weights k (omega arith) is named)

@@ -38,7 +38,7 @@ module _ {K : Type 0} (order : K → K → Ordering) (total : IsTotalOrder order
   needed_in_basis : (target : FormalSum K) (k : ℕ) → IsNeededFor order candidates target k → IsInBasis order candidates k
   needed_in_basis target k h = counting_name (IsInBasis order candidates) h.weights h.expressed.basis k h.counts
 
-  written_in_basis : (targets : List (FormalSum K)) (k : ℕ) → IsWritten order candidates targets k → IsInBasis order candidates k
+  pub written_in_basis : (targets : List (FormalSum K)) (k : ℕ) → IsWritten order candidates targets k → IsInBasis order candidates k
   written_in_basis targets k h = needed_in_basis h.1 k h.4
 
   -- the written candidates are independent

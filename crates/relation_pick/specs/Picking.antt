@@ -40,9 +40,11 @@ pub record IsNeededFor {K : Type 0} (order : K → K → Ordering) (candidates :
 abbrev pub IsWritten : {K : Type 0} → (K → K → Ordering) → List (FormalSum K) → List (FormalSum K) → ℕ → Type 0
 IsWritten order candidates targets k = Any (λ target. IsNeededFor order candidates target k) targets
 
--- the answer for one target; the weights stand in the order of the places
+-- the answer for one target: the form is sorted with no zero coefficient, and the weights stand in the order
+-- of the places
 pub record IsAnswer {K : Type 0} (order : K → K → Ordering) (candidates : List (FormalSum K)) (target form : FormalSum K) (weights : FormalSum ℕ) : Type 0 where
   pub reduced : IsReducedForm order (WholeSpan order candidates) target form
+  pub canonical : IsCanonical order form
   pub expressed : IsExpression order candidates target form weights
   pub ascending : IsCanonical number_cmp weights
 

@@ -1,5 +1,5 @@
 -- Reduced forms by the span of a list of rows: each row has one, and only one.
-use Rattle.std.specs.Prelude.{ℕ, ◌<◌, List, length}
+use Rattle.std.specs.Prelude.{◌<◌, List, length}
 use Rattle.sector_lattice.specs.Sectors.{integral_cmp}
 use Rattle.ibp_algebra.specs.Spans.{row_at, InSpan, IsReducedForm}
 use Rattle.sparse_rows.specs.Rows.{IntegralSum, SameRow}

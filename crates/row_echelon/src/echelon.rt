@@ -60,6 +60,7 @@ impl Echelon {
         requires { IsBelow self.old number }
         ensures ok { IfOk result (Inserts self.old self.new row.now number) }
         ensures err { OnErr result (self.new ≡ self.old) }
+        ensures independent { AreIndependent self.new }
     {
         let left = eliminate(self.alloc, &self.kept, row)?;
         match left.rest.lead() {

@@ -56,3 +56,6 @@ returns-in_ok-append-in-Some-clause-ok c =
       ap (originals []) c.in_ok-append-in-Some.ensures.ok ∙ originals-joined es _ c.args.row.now c.in_ok-left.ensures.row c.in_ok-left.ensures.sum
           ∙ ap (λ (kept : KeptRows). kept ++ (c.args.number, c.args.row.now) ∷ []) c.self.view_is,
     )
+
+pub returns-in_ok-append-in-Some-clause-independent : goal.returns-in_ok-append-in-Some-clause-independent
+returns-in_ok-append-in-Some-clause-independent c = (invariant_of-self-in-Some c).independent
