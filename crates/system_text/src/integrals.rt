@@ -3,6 +3,7 @@ ghost use Rattle.std.specs.Prelude.{◌≡◌, ◌++◌, IfOk, OnOk, codes};
 ghost use Rattle.std.specs.Fmt.{signed_decimal};
 ghost use Rattle.std.specs.List.{flat_map};
 ghost use Rattle.system_text.specs.Texts.{joined, sum_text, integral_text, row_term_text, row_text};
+ghost use Rattle.system_text.specs.Systems.{line};
 
 use crate::numbers::{put_bytes, put_residue, put_signed};
 use ibp_base::{List, NoMemory};
@@ -35,7 +36,7 @@ fn put_powers(text: &mut Vec<u8>, powers: &[i16]) -> Result<(), NoMemory>
     }
 }
 
-fn put_integral(text: &mut Vec<u8>, integral: &Integral) -> Result<(), NoMemory>
+pub fn put_integral(text: &mut Vec<u8>, integral: &Integral) -> Result<(), NoMemory>
     ensures { OnOk result (text.new.items ≡ text.old.items ++ integral_text integral.now) }
 {
     put_bytes(text, b"[")?;
@@ -74,12 +75,28 @@ fn put_row_terms(text: &mut Vec<u8>, terms: &[(Integral, Residue)]) -> Result<()
     }
 }
 
+fn put_row(text: &mut Vec<u8>, row: &Row) -> Result<(), NoMemory>
+    ensures { OnOk result (text.new.items ≡ text.old.items ++ row_text row.now) }
+{
+    put_row_terms(text, row.terms())
+}
+
+// A line with a word and a row.
+pub fn put_row_line(text: &mut Vec<u8>, word: &[u8], row: &Row) -> Result<(), NoMemory>
+    ensures { OnOk result (text.new.items ≡ text.old.items
+        ++ line (word.now ++ row_text row.now)) }
+{
+    put_bytes(text, word)?;
+    put_row(text, row)?;
+    put_bytes(text, b"\n")
+}
+
 /// The text of a row: its terms, highest integral first, as `5*I[2,-1]`, with a space between each
 /// two. The empty row is `0`. There is no line end.
 pub fn print_row(alloc: Global, row: &Row) -> Result<List<u8>, NoMemory>
     ensures { IfOk result (λ text. text ≡ row_text row.now) }
 {
     let mut text = Vec::new(alloc);
-    put_row_terms(&mut text, row.terms())?;
+    put_row(&mut text, row)?;
     Ok(List::from_vec(text))
 }

@@ -1,7 +1,8 @@
 // Numbers put at the end of a text.
-ghost use Rattle.std.specs.Prelude.{◌≡◌, ◌++◌, OnOk, decimal};
+ghost use Rattle.std.specs.Prelude.{◌≡◌, ◌++◌, OnOk, codes, decimal};
 ghost use Rattle.std.specs.Fmt.{signed_decimal};
 ghost use Rattle.system_text.specs.Texts.{residue_text};
+ghost use Rattle.system_text.specs.Systems.{line};
 
 use ibp_base::NoMemory;
 use ibp_field::Residue;
@@ -14,7 +15,7 @@ pub fn put_bytes(text: &mut Vec<u8>, bytes: &[u8]) -> Result<(), NoMemory>
     Ok(())
 }
 
-pub fn put_whole(text: &mut Vec<u8>, number: u16) -> Result<(), NoMemory>
+pub fn put_whole(text: &mut Vec<u8>, number: u64) -> Result<(), NoMemory>
     ensures { OnOk result (text.new.items ≡ text.old.items ++ decimal number) }
 {
     let mut buffer = Buffer::new();
@@ -33,4 +34,15 @@ pub fn put_residue(text: &mut Vec<u8>, residue: Residue) -> Result<(), NoMemory>
 {
     let mut buffer = Buffer::new();
     put_bytes(text, buffer.format(residue.value()).as_bytes())
+}
+
+// A line with a word and a count.
+pub fn put_count(text: &mut Vec<u8>, word: &[u8], count: usize) -> Result<(), NoMemory>
+    ensures { OnOk result (text.new.items ≡ text.old.items
+        ++ line (word.now ++ codes " " ++ decimal count)) }
+{
+    put_bytes(text, word)?;
+    put_bytes(text, b" ")?;
+    put_whole(text, count as u64)?;
+    put_bytes(text, b"\n")
 }
