@@ -1,0 +1,17 @@
+pub mod Syzygies
+pub mod Elimination
+pub mod Fields
+pub mod Components
+pub mod SectorBasis
+pub mod Splitting
+pub mod Parts
+pub mod Variables
+pub mod SectorReduced
+pub mod SectorRun
+pub mod OneBasis
+pub mod FactorLaws
+pub mod MemberSums
+pub mod Generating
+pub mod FieldVectors
+pub mod Zips
+pub mod FieldLimits

@@ -1,0 +1,94 @@
+-- The reduced low part of a done run of a sector is the reduced basis of the syzygies of the factors.
+use Rattle.std.proofs.Common.{◌≡◌, ℕ, suc, ◌+◌, ◌<◌, ◌≤◌, ◌↔◌, length, get_or, List, [], ◌∷◌, map, sym, refl, ◌∙◌, lit<, arith}
+use Rattle.std.specs.List.{AllByRecursion, Contains}
+use Rattle.std.proofs.lemmas.List.{get_or-map, length-map}
+use Rattle.std.proofs.lemmas.List.Elements.{Contains-get_or, All-contains, All-from_recursion}
+use Rattle.ibp_algebra.specs.FormalSum.{AllKeys, normal_form}
+use Rattle.ibp_algebra.specs.Polynomial.{Polynomial}
+use Rattle.ibp_algebra.proofs.Combinations.{AllKeys-weaker}
+use Rattle.ibp_algebra.proofs.NormalForm.{AllKeys-normal_form}
+use Rattle.ibp_algebra.proofs.SumLaws.{SameCoefficients-sym}
+use Rattle.ibp_algebra.proofs.ZeroDivisors.{AllKeys-append}
+use Rattle.mono_order.specs.Term.{IsTerm}
+use Rattle.mono_order.specs.TermOrder.{over_position, zero_dominates, zero_high}
+use Rattle.mono_order.specs.BlockOrders.{zero_dominates_laws}
+use Rattle.mono_order.proofs.Terms.{length-ones}
+use Rattle.module_vec.specs.ModuleVector.{ModuleVector, IsMember}
+use Rattle.module_vec.proofs.Multiples.{AllKeys-map_keys}
+use Rattle.module_vec.proofs.NormalForms.{SameVector-normal}
+use Rattle.module_vec.proofs.Submodules.{IsMember-same, IsMember-generator, IsMember-least, IsSubmodule-IsMember}
+use Rattle.module_basis.specs.GroebnerBasis.{IsGroebnerBasis, IsReducedBasis, IsReducedLowBasis, IsLowMember}
+use Rattle.module_basis.proofs.OrderChange.{IsReducedBasis-members}
+use Rattle.family_file.specs.Shapes.{HasVariables}
+use Rattle.sector_module.specs.Factors.{at_component, unit_vector, factor_generators, sector_factors, sector_generators}
+use Rattle.sector_module.proofs.Syzygies.{IsPolynomialIn, IsSyzygy}
+use Rattle.sector_module.proofs.Parts.{IsInFirst}
+use Rattle.sector_module.proofs.SectorBasis.{syzygy_basis}
+use Rattle.sector_module.proofs.SectorReduced.{factors_first, long_factors}
+
+-- ---- lists of images
+
+contained_image : (f : ModuleVector → ModuleVector) (l : List ModuleVector) (g : ModuleVector) → Contains (map f l) g → (r : ModuleVector) × Contains l r × (f r ≡ g)
+contained_image f l g h =
+    let below : h.0 < length l = omega (arith, h.1, length-map l f) in
+    (get_or l h.0 [], Contains-get_or l h.0 [] below, sym (get_or-map f l h.0 [] g below) ∙ h.2)
+
+image_contained : (f : ModuleVector → ModuleVector) (l : List ModuleVector) (r : ModuleVector) → Contains l r → Contains (map f l) (f r)
+image_contained f l r h =
+    let is : get_or (map f l) h.0 (f r) ≡ f r = get_or-map f l h.0 r (f r) h.1 ∙ (λ i. f (h.2 i)) in
+    (h.0, omega (arith, h.1, length-map l f), is)
+
+generators_valid : (first : ℕ) (fs : List Polynomial) → AllByRecursion (IsPolynomialIn 9) fs → first + length fs ≤ 256 → AllByRecursion (AllKeys (IsTerm 9)) (factor_generators 9 first fs)
+generators_valid first [] h le = tt
+generators_valid first (f ∷ fs) h le = (
+  AllKeys-append (IsTerm 9) (at_component 0 f) (unit_vector 9 first)
+      (AllKeys-map_keys (λ m. length m ≡ 9) (IsTerm 9) (λ m. (0, m)) (λ m long. record { component = lit< tt; exponents = long }) f h.0)
+      (record { component = omega (arith, le); exponents = length-ones 9 }, tt),
+  generators_valid (suc first) fs h.1 (omega (arith, le)),
+)
+
+module _ (p : Polynomial) (n sector : ℕ) (few : n ≤ 9) (shape : AllKeys (HasVariables n) p) where
+  pub polynomials : AllByRecursion (IsPolynomialIn 9) (sector_factors p n sector)
+  polynomials = weaker (sector_factors p n sector) (factors_first p n sector few shape)
+    where
+      weaker : (fs : List Polynomial) → AllByRecursion (AllKeys (IsInFirst 9 n)) fs → AllByRecursion (IsPolynomialIn 9) fs
+      weaker [] h = tt
+      weaker (f ∷ fs) h = (AllKeys-weaker (IsInFirst 9 n) (λ m. length m ≡ 9) (λ m h. h.exponents) f h.0, weaker fs h.1)
+
+  pub few_factors : length (sector_factors p n sector) < 255
+  few_factors = omega (arith, long_factors p n sector few shape)
+
+  raw_generators : List ModuleVector
+  raw_generators = factor_generators 9 1 (sector_factors p n sector)
+
+  raw_valid : (r : ModuleVector) → Contains raw_generators r → AllKeys (IsTerm 9) r
+  unfolding raw_generators
+  raw_valid r h =
+      All-contains (AllKeys (IsTerm 9)) raw_generators r
+      (All-from_recursion (AllKeys (IsTerm 9)) raw_generators (generators_valid 1 (sector_factors p n sector) polynomials (omega (arith, long_factors p n sector few shape)))) h
+
+  -- the canonical generators generate the same module
+  same_module : (v : ModuleVector) → IsMember 9 (sector_generators p n sector) v ↔ IsMember 9 raw_generators v
+  unfolding raw_generators
+  same_module v =
+      let raw = raw_generators in
+      let normal = normal_form zero_dominates in
+      let gs = map normal raw in (
+        IsMember-least 9 gs (IsMember 9 raw) (IsSubmodule-IsMember 9 raw) (λ g h.
+            let image = contained_image normal raw g h in
+            let r = image.0 in
+            let same = SameVector-normal (zero_dominates_laws 9) g r (sym image.2) in
+            IsMember-same 9 raw r g (SameCoefficients-sym same) (IsMember-generator 9 raw r image.1 (raw_valid r image.1))) v,
+        IsMember-least 9 raw (IsMember 9 gs) (IsSubmodule-IsMember 9 gs) (λ r h.
+            let valid = AllKeys-normal_form zero_dominates (zero_dominates_laws 9).total (zero_dominates_laws 9).unique (IsTerm 9) r (raw_valid r h) in
+            IsMember-same 9 gs (normal r) r (SameVector-normal (zero_dominates_laws 9) (normal r) r refl)
+            (IsMember-generator 9 gs (normal r) (image_contained normal raw r h) valid)) v,
+      )
+
+  pub run_reduced : (elements list : List ModuleVector) → IsGroebnerBasis zero_dominates (IsMember 9 (sector_generators p n sector)) elements
+      → IsReducedLowBasis zero_dominates 9 zero_high elements list → IsReducedBasis over_position 9 (IsSyzygy 9 (sector_factors p n sector)) list
+  unfolding raw_generators
+  run_reduced elements list groebner reduced =
+      syzygy_basis 9 (sector_factors p n sector) polynomials few_factors list
+      (IsReducedBasis-members zero_dominates 9 (IsLowMember zero_high (IsMember 9 (sector_generators p n sector))) (IsLowMember zero_high (IsMember 9 raw_generators))
+      (λ v. (λ h. ((same_module v).0 h.0, h.1), λ h. ((same_module v).1 h.0, h.1))) list (reduced (sector_generators p n sector) groebner))

@@ -1,0 +1,7 @@
+use Rattle.std.proofs.Common.{take}
+use Rattle.std.specs.List.{AllZip}
+use Rattle.sector_module.specs.FieldsOf.{IsFieldOf}
+use Rattle.sector_module.proofs.vectors.fields_of.Given as goal
+
+abbrev pub invariant-loop-vector : goal.invariant-loop-vector
+invariant-loop-vector l = AllZip (IsFieldOf l.n) (take l.vector-index l.vectors) l.fields.items

@@ -1,0 +1,4 @@
+pub mod Generators
+pub mod Factors
+pub mod FieldsOf
+pub mod SectorBasis
