@@ -1,0 +1,6 @@
+pub mod Greatest
+pub mod SeedPowers
+pub mod Listing
+pub mod HandedDown
+pub mod Steps
+pub mod Opening

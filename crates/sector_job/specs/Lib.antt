@@ -1,0 +1,10 @@
+pub mod Candidates
+pub mod Outcomes
+pub mod Results
+pub mod Forms
+pub mod CandidateRows
+pub mod Tails
+pub mod OneOutcome
+pub mod PieceLaws
+pub mod EqualPlans
+pub mod Handing

@@ -1,0 +1,20 @@
+//! The work on one sector: its basis, its candidates, and the integrals that it hands down.
+#![tactic(auto)]
+
+mod bounds;
+mod candidates;
+pub mod laws;
+mod outcome;
+mod plan;
+mod sector_result;
+mod seeding;
+mod tails;
+#[cfg(test)]
+mod tests;
+mod working;
+
+pub use outcome::Outcome;
+pub use plan::Plan;
+pub use sector_result::SectorResult;
+pub use seeding::seeds_for;
+pub use working::work;

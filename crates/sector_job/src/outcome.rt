@@ -1,0 +1,23 @@
+// What comes of a sector.
+use ibp_base::List;
+use sector_lattice::Integral;
+use sector_module::Generators;
+use sparse_rows::Row;
+
+/// What comes of the work on a sector for some of its integrals.
+#[derive(Drop)]
+pub enum Outcome {
+    /// The reduced basis, the identities of its fields at the seeds, and the integrals of proper subsectors that
+    /// the targets are reduced to.
+    Worked {
+        generators: Generators,
+        candidates: List<Row>,
+        tails: List<Integral>,
+    },
+    /// The run of the sector spent the family's pairs.
+    PairsSpent,
+    /// A degree of the run is over the limit.
+    DegreeOver,
+    /// There are more candidates than the family allows.
+    CandidatesOver,
+}

@@ -1,0 +1,88 @@
+// The integrals that a sector hands down.
+ghost use Rattle.std.specs.Prelude.{◌≡◌, ◌↔◌, ◌<◌, ◌^◌, ◌++◌, IsTrue, IfOk, OnOk, length, map};
+ghost use Rattle.std.specs.List.{flat_map};
+ghost use Rattle.std.specs.List.Sorted.{IsPermutation, IsSorted};
+ghost use Rattle.sector_lattice.specs.Sectors.{integral_cmp};
+ghost use Rattle.sector_job.specs.Candidates.{target_row, AreTails};
+ghost use Rattle.sector_job.specs.Handing.{is_proper, integrals_below};
+
+use ibp_base::NoMemory;
+use ibp_field::Residue;
+use relation_pick::pick;
+use sector_lattice::{Integral, Sector, is_subsector};
+use sparse_rows::Row;
+use std::alloc::Global;
+
+/// The integrals of proper subsectors that occur in the reduced forms of the targets by the candidates, lowest
+/// first.
+pub fn tails_of(
+    alloc: Global,
+    sector: Sector,
+    targets: &[Integral],
+    candidates: &[Row],
+) -> Result<Vec<Integral>, NoMemory>
+    requires { length candidates.now < 2 ^ 32 }
+    ensures { IfOk result (λ tails. AreTails sector.0 targets.now candidates.now tails.items) }
+{
+    let rows = target_rows(alloc, targets)?;
+    let picked = pick(alloc, candidates, &rows)?;
+    let mut tails = all_below(alloc, sector, picked.reductions.as_slice())?;
+    sort(&mut tails);
+    tails.dedup();
+    Ok(tails)
+}
+
+// The row of each target.
+fn target_rows(alloc: Global, targets: &[Integral]) -> Result<Vec<Row>, NoMemory>
+    ensures { IfOk result (λ rows. rows.items ≡ map target_row targets.now) }
+{
+    let mut rows = Vec::new(alloc);
+    for target in targets {
+        rows.push(row_of(alloc, target)?)?;
+    }
+    Ok(rows)
+}
+
+fn row_of(alloc: Global, target: &Integral) -> Result<Row, NoMemory>
+    ensures { IfOk result (λ row. row ≡ target_row target.now) }
+{
+    let row = Row::from_terms(alloc, &[(*target, Residue::one())])?;
+    Ok(row)
+}
+
+// The integrals of proper subsectors in the forms, one after the other.
+fn all_below(alloc: Global, sector: Sector, forms: &[Row]) -> Result<Vec<Integral>, NoMemory>
+    ensures { IfOk result (λ found. found.items ≡ flat_map (integrals_below sector.0) forms.now) }
+{
+    let mut found = Vec::new(alloc);
+    for form in forms {
+        add_below(&mut found, sector, form)?;
+    }
+    Ok(found)
+}
+
+// Those of one form.
+fn add_below(found: &mut Vec<Integral>, sector: Sector, form: &Row) -> Result<(), NoMemory>
+    ensures { OnOk result (found.new.items ≡ found.old.items ++ integrals_below sector.0 form.now) }
+{
+    for (integral, _) in form.terms() {
+        if lies_properly_in(integral.sector(), sector) {
+            found.push(*integral)?;
+        }
+    }
+    Ok(())
+}
+
+fn lies_properly_in(inner: Sector, outer: Sector) -> bool
+    ensures { result ≡ is_proper inner.0 outer.0 }
+{
+    inner != outer && is_subsector(inner, outer)
+}
+
+// Lowest first.
+fn sort(integrals: &mut Vec<Integral>)
+    ensures permutation { IsPermutation integrals.old.items integrals.new.items }
+    ensures sorted { IsSorted integral_cmp integrals.new.items }
+{
+    integrals.sort_unstable_by(|left, right| left.compare(right));
+}

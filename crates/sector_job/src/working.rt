@@ -1,0 +1,87 @@
+// The work on a sector.
+ghost use Rattle.std.specs.Prelude.{◌≡◌, ℕ, false, IfOk, length};
+ghost use Rattle.std.specs.List.{All};
+ghost use Rattle.mono_order.specs.declared.limits.TheConstants.{RUN_DEGREE};
+ghost use Rattle.family_file.specs.Conditions.{IsInSectorModule, is_zero_sector};
+ghost use Rattle.family_file.specs.FamilyView.{family_view};
+ghost use Rattle.family_file.specs.Shapes.{IsField};
+ghost use Rattle.sector_job.specs.Outcomes.{FitsTargets, HasBasis, IsOutcome};
+
+use crate::bounds::{are_too_many, most_dots, most_rank};
+use crate::candidates::all_candidates;
+use crate::outcome::Outcome;
+use crate::plan::Plan;
+use crate::sector_result::SectorResult;
+use crate::tails::tails_of;
+use family_file::Family;
+use ibp_base::{List, NoMemory};
+use module_basis::BasisFault;
+use relay_core::Job;
+use sector_lattice::{Integral, Sector, seeds};
+use sector_module::{Generators, sector_basis};
+use std::alloc::Global;
+
+/// Works on a job's sector: the reduced basis of its module, the identities of the basis at the seeds that the
+/// targets ask for, and the integrals of proper subsectors in the reduced forms of the targets by these
+/// identities. After Wu, Boehm, Ma, Xu and Zhang, "NeatIBP 1.0, a package generating small-size
+/// integration-by-parts relations for Feynman integrals" (2023).
+pub fn work(alloc: Global, plan: &Plan, job: &Job) -> Result<SectorResult, NoMemory>
+    requires powers { All (λ target. length target ≡ plan.now.n) job.now.targets }
+    requires not_zero { is_zero_sector plan.now.zero job.now.sector.0 ≡ false }
+    ensures plan { IfOk result (λ piece. piece.plan ≡ plan.now) }
+    ensures sector { IfOk result (λ piece. piece.sector ≡ job.now.sector) }
+    ensures targets { IfOk result (λ piece. piece.targets ≡ job.now.targets) }
+    ensures outcome { IfOk result (λ piece. IsOutcome (family_view plan.now) job.now.sector.0 job.now.targets piece.outcome) }
+{
+    let outcome = outcome_of(alloc, plan.family(), job.sector, job.targets.as_slice())?;
+    let targets = List::from_vec(job.targets.as_slice().to_vec(alloc)?);
+    Ok(SectorResult::new(plan.share()?, job.sector, targets, outcome))
+}
+
+// What comes of the sector for these targets.
+fn outcome_of(
+    alloc: Global,
+    family: &Family,
+    sector: Sector,
+    targets: &[Integral],
+) -> Result<Outcome, NoMemory>
+    requires { FitsTargets (family_view family.now) sector.0 targets.now }
+    ensures { IfOk result (λ outcome. IsOutcome (family_view family.now) sector.0 targets.now outcome) }
+{
+    match sector_basis(alloc, family, sector) {
+        Ok(generators) => outcome_by(alloc, family, targets, generators),
+        Err(BasisFault::PairsSpent) => Ok(Outcome::PairsSpent),
+        Err(BasisFault::DegreeOver) => Ok(Outcome::DegreeOver),
+        Err(BasisFault::NoMemory) => Err(NoMemory),
+    }
+}
+
+// What comes of a sector by its basis.
+fn outcome_by(
+    alloc: Global,
+    family: &Family,
+    targets: &[Integral],
+    generators: Generators,
+) -> Result<Outcome, NoMemory>
+    requires fits { FitsTargets (family_view family.now) generators.sector.0 targets.now }
+    requires basis { HasBasis (family_view family.now) generators.sector.0 generators.fields }
+    requires shape { All (λ field. IsField family.now.n RUN_DEGREE field.c field.b) generators.fields }
+    requires members { All (IsInSectorModule family.now.baikov generators.sector.0) generators.fields }
+    ensures { IfOk result (λ outcome. IsOutcome (family_view family.now) generators.sector.0 targets.now outcome) }
+{
+    let sector = generators.sector();
+    let fields = generators.fields();
+    let dots = most_dots(family, targets);
+    let rank = most_rank(family, targets);
+    if are_too_many(family, fields.len(), sector, dots, rank) {
+        return Ok(Outcome::CandidatesOver);
+    }
+    let seeds = seeds(alloc, sector, family.n, dots, rank)?;
+    let candidates = all_candidates(alloc, family, sector, fields, seeds.as_slice())?;
+    let tails = tails_of(alloc, sector, targets, &candidates)?;
+    Ok(Outcome::Worked {
+        generators,
+        candidates: List::from_vec(candidates),
+        tails: List::from_vec(tails),
+    })
+}
