@@ -1,0 +1,81 @@
+-- What is gathered of the pieces of a relay, where each sector is worked.
+--     label_view, label_views   a label of the code as the definitions have it; a list of them
+--     IsPieceOf                 the piece is of this family
+--     fault_of                  the fault of a piece that isn't worked
+--     IsWorkedPiece             the piece is right, and worked
+--     IsWorkOf                  what the piece's sector comes to for the piece's targets
+--     Gains                     one more work is gathered
+--     Gathers                   the works of these pieces are gathered, each in turn
+--     IsFirstFault              the fault of the first piece that has one
+--     Writes                    a system of what is gathered
+use Rattle.std.specs.Prelude.{◌≡◌, ℕ, ◌<◌, Option, None, Some, List, [], ◌∷◌, ◌++◌, map, length, slice_index_or}
+use Rattle.std.specs.List.{AllZip}
+use Rattle.ibp_algebra.specs.FormalSum.{FormalSum}
+use Rattle.sector_lattice.specs.Sectors.{integral_cmp}
+use Rattle.sparse_rows.specs.Rows.{IntegralSum}
+use Rattle.family_file.specs.Family.{FamilyData}
+use Rattle.family_file.specs.FamilyView.{family_view}
+use Rattle.relation_pick.specs.Picking.{IsPick}
+use Rattle.sector_job.specs.Candidates.{Label as LabelData, labels}
+use Rattle.sector_job.specs.Results.{ResultValue, IsResult}
+use Rattle.system_text.specs.declared.value.System.{System}
+use Rattle.neat_system.specs.declared.fault.SystemFault.{SystemFault}
+use Rattle.neat_system.specs.declared.labels.Label.{Label}
+use Rattle.neat_system.specs.declared.gathering.Gathered.{Gathered}
+use Rattle.neat_system.specs.Answer.{fault_in}
+use Rattle.neat_system.specs.Reductions.{declared_row, reductions_of}
+use Rattle.neat_system.specs.System.{SectorWork, IsWorkFor, all_candidates, all_labels, block_of, relation_at}
+
+abbrev pub label_view : Label → LabelData
+label_view label = record { seed = label.seed; field = label.field }
+
+abbrev pub label_views : List Label → List LabelData
+label_views labels = map label_view labels
+
+abbrev pub IsPieceOf : FamilyData → ResultValue → Type 0
+IsPieceOf family piece = family_view piece.plan ≡ family
+
+abbrev pub fault_of : ResultValue → Option SystemFault
+fault_of piece = fault_in piece.sector piece.outcome
+
+pub record IsWorkedPiece (piece : ResultValue) : Type 0 where
+  pub is_result : IsResult piece
+  pub none : fault_of piece ≡ None
+
+pub record IsWorkOf (family : FamilyData) (piece : ResultValue) (work : SectorWork) : Type 0 where
+  pub of_sector : work.sector ≡ piece.sector.0
+  pub is_work : IsWorkFor family piece.targets work
+
+pub record Gains (family : FamilyData) (piece : ResultValue) (old new : Gathered) : Type 0 where
+  pub work : SectorWork
+  pub is_work : IsWorkOf family piece work
+  pub blocks : new.blocks.items ≡ old.blocks.items ++ block_of work ∷ []
+  pub labels : label_views new.labels.items ≡ label_views old.labels.items ++ labels (length work.fields) work.seeds
+  pub candidates : new.candidates.items ≡ old.candidates.items ++ work.candidates
+
+pub record Gathers (family : FamilyData) (pieces : List ResultValue) (gathered : Gathered) : Type 0 where
+  pub works : List SectorWork
+  pub are_works : AllZip (IsWorkOf family) pieces works
+  pub blocks : gathered.blocks.items ≡ map block_of works
+  pub labels : label_views gathered.labels.items ≡ all_labels works
+  pub candidates : gathered.candidates.items ≡ all_candidates works
+
+pub record IsFirstFault (pieces : List ResultValue) (fault : SystemFault) : Type 0 where
+  pub place : ℕ
+  pub piece : ResultValue
+  pub within : place < length pieces
+  pub is : piece ≡ slice_index_or pieces place piece
+  pub is_result : IsResult piece
+  pub has : fault_of piece ≡ Some fault
+  pub earlier : (k : ℕ) (d : ResultValue) → k < place → IsWorkedPiece (slice_index_or pieces k d)
+
+pub record Writes (family : FamilyData) (gathered : Gathered) (system : System) : Type 0 where
+  pub written : List ℕ
+  pub forms : List IntegralSum
+  pub weights : List (FormalSum ℕ)
+  pub pick : IsPick integral_cmp gathered.candidates.items (map (declared_row family) family.targets) written forms weights
+  pub name : system.name ≡ family.name
+  pub n : system.n ≡ family.n
+  pub sectors : system.sectors ≡ gathered.blocks.items
+  pub relations : system.relations ≡ map (relation_at (label_views gathered.labels.items) gathered.candidates.items) written
+  pub reductions : system.reductions ≡ reductions_of written family.targets forms weights

@@ -1,0 +1,18 @@
+-- A relay whose sectors are worked one after another.
+--     IsUnderWay       the relay of this family is the replay of its journal, and no sector is held
+--     Advances         one more sector is done
+use Rattle.std.specs.Prelude.{◌≡◌, ◌+◌, [], length}
+use Rattle.family_file.specs.declared.family.Family.{Family}
+use Rattle.relay_core.specs.Relay.{Replays}
+use Rattle.relay_core.specs.State.{Relay}
+use Rattle.sector_job.specs.Results.{ResultValue, opening_of, tails_of_plan}
+
+pub record IsUnderWay (plan : Family) (relay : Relay Family ResultValue) : Type 0 where
+  pub plan_is : relay.plan ≡ plan
+  pub powers : relay.n ≡ plan.n
+  pub replays : Replays (tails_of_plan plan) (opening_of plan).targets relay.journal relay.progress
+  pub free : relay.progress.held ≡ []
+
+pub record Advances (plan : Family) (old new : Relay Family ResultValue) : Type 0 where
+  pub under_way : IsUnderWay plan new
+  pub one_more : length new.progress.done ≡ length old.progress.done + 1

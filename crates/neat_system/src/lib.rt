@@ -1,0 +1,20 @@
+//! The system of a family.
+#![tactic(auto)]
+
+mod closing;
+mod declared;
+mod fault;
+mod faults;
+mod gathering;
+mod labels;
+pub mod laws;
+mod plain;
+mod reductions;
+mod relations;
+
+pub use closing::close;
+pub use fault::SystemFault;
+pub use plain::run_plain;
+
+#[cfg(test)]
+mod tests;
