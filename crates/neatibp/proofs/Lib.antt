@@ -1,6 +1,11 @@
 pub mod Known
 pub mod Rows
 pub mod Probes
+pub mod OfIdentity
+pub mod OfBasis
+pub mod OfPlain
+pub mod Commands
 pub mod Told
 pub mod Exact
 pub mod OneText
+pub mod Numbers

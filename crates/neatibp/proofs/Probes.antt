@@ -1,11 +1,10 @@
 -- What the family of a file says of its probe, and why it is refused.
-use Rattle.std.proofs.Common.{◌≡◌, ◌≢◌, ℕ, ◌↔◌, List, Bool, true, false, Option, Some, None, Result, Ok, Err, refl, sym, ap, subst, ◌∙◌, arith}
+use Rattle.std.proofs.Common.{◌≡◌, ◌≢◌, ◌<◌, ◌^◌, ℕ, ◌↔◌, List, Some, Result, Ok, Err, refl, sym, subst, ◌∙◌, arith}
 use Rattle.std.specs.declared.alloc.Global.{Global}
-use Rattle.std.specs.Prelude.{Vec, IsErrAnd, IsSome, IsOkAnd, OnOk, IfOk, nat_lt, length, if◌then◌else◌}
+use Rattle.std.specs.Prelude.{Vec, IsErrAnd, IsSome}
 use Rattle.std.proofs.lemmas.Option.{same_Some}
 use Rattle.ibp_algebra.specs.Field.{MeetsConditions}
 use Rattle.ibp_algebra.specs.Identity.{in_sector_of}
-use Rattle.family_file.specs.declared.fault.FileFault.{FileFault}
 use Rattle.family_file.specs.declared.need.Need.TheVariants as needs
 use Rattle.family_file.specs.declared.parts.Probe.{Probe}
 use Rattle.family_file.proofs.FamilyLimits.{accepted_needs}
@@ -17,7 +16,6 @@ use Rattle.neatibp.specs.Identity.{MeetsProbe, IsNotDivisible, IsNotTangent}
 use Rattle.neatibp.specs.Refusals.{of_identity_fault}
 use Rattle.neatibp.specs.declared.refusal.Refusal.{Refusal}
 use Rattle.neatibp.specs.Causes.{need_of, IsRefusal, Answers}
-use Rattle.neatibp.specs.declared.words.Command.{Command}
 use Rattle.neatibp.specs.declared.words.Command.TheVariants as command
 
 -- a family has one probe
@@ -52,8 +50,12 @@ refuses family probe result NotTangent given is divisible tangent =
 refuses family probe result NoMemory given is divisible tangent = tt
 
 -- where a probe is needed, the family of a file has one
-pub has_needed_probe : (asked : Command) (bytes : List ℕ) (family : FamilyData) → family_of (need_of asked) bytes ≡ Ok family → IsSome family.probe
-has_needed_probe command.Identity bytes family is = (accepted_needs needs.Probe bytes family is).probe refl
+pub has_needed_probe : (bytes : List ℕ) (family : FamilyData) → family_of (need_of command.Identity) bytes ≡ Ok family → IsSome family.probe
+has_needed_probe bytes family is = (accepted_needs needs.Probe bytes family is).probe refl
+
+-- where a sector is needed, it is one of the family's
+pub has_needed_sector : (number : ℕ) (bytes : List ℕ) (family : FamilyData) → family_of (need_of (command.Basis number)) bytes ≡ Ok family → number < 2 ^ family.n
+has_needed_sector number bytes family is = (accepted_needs (needs.Sector number) bytes family is).sector number refl
 
 pub answers_refusal : (family : FamilyData) (result : Result (Vec ℕ Global) Refusal) (r : Refusal) → IsErrAnd result (λ e. e ≡ r) → IsRefusal command.Identity (Ok family) r → Answers command.Identity (Ok family) result
 answers_refusal family (Ok text) r same holds = absurd same

@@ -5,7 +5,13 @@ use Rattle.std.specs.Io.KnownBytes.{Keeps, Appends}
 use Rattle.family_file.specs.declared.fault.FileFault.{FileFault}
 use Rattle.family_file.specs.declared.need.Need.{Need}
 use Rattle.family_file.specs.declared.need.Need.TheVariants as needs
-use Rattle.family_file.specs.Family.{FamilyData, family_of}
+use Rattle.family_file.specs.Family.{FamilyData}
+use Rattle.module_basis.specs.PlainRun as run
+use Rattle.sector_job.specs.declared.outcome.Outcome.TheVariants as outcome
+use Rattle.neat_system.specs.System.{IsFault}
+use Rattle.sector_job.specs.Outcomes.{EndsSo}
+use Rattle.neatibp.specs.Basis.{IsRunDone, IsBasisText}
+use Rattle.neatibp.specs.Plain.{HasSystem, IsSystemText}
 use Rattle.neatibp.specs.Identity.{IsIdentityText, IsNotDivisible, IsNotTangent, MeetsProbe}
 use Rattle.neatibp.specs.Output.{AppendsFront}
 use Rattle.neatibp.specs.declared.words.Command.{Command}
@@ -22,16 +28,25 @@ use Rattle.neatibp.specs.declared.status.Status.TheVariants.{Done, Usage, ReadFa
 -- what a command needs of a file beside the family
 abbrev pub need_of : Command → Need
 need_of command.Identity = needs.Probe
+need_of (command.Basis number) = needs.Sector number
+need_of command.Plain = needs.Family
 
 -- the text that a command writes of a family
 abbrev pub IsTextOf : Command → FamilyData → List ℕ → Type 0
 IsTextOf command.Identity family text = IsIdentityText family text
+IsTextOf (command.Basis number) family text = IsBasisText family number text
+IsTextOf command.Plain family text = IsSystemText family text
 
 -- the statuses by which a command refuses a family
 abbrev pub Refuses : Command → FamilyData → Status → Type 0
 Refuses command.Identity family (NotDivisible i) = IsNotDivisible family i
 Refuses command.Identity family NotTangent = IsNotTangent family
-Refuses command.Identity family status = ⊥
+Refuses (command.Basis number) family (PairsSpent sector) = (sector.0 ≡ number) × EndsSo family number run.PairsSpent
+Refuses (command.Basis number) family (DegreeOver sector) = (sector.0 ≡ number) × EndsSo family number run.DegreeOver
+Refuses command.Plain family (PairsSpent sector) = IsFault family sector.0 outcome.PairsSpent
+Refuses command.Plain family (DegreeOver sector) = IsFault family sector.0 outcome.DegreeOver
+Refuses command.Plain family (CandidatesOver sector) = IsFault family sector.0 outcome.CandidatesOver
+Refuses asked family status = ⊥
 
 -- a status by which the file or the command refuses
 abbrev pub IsRefused : Command → Result FamilyData FileFault → Status → Type 0
@@ -45,6 +60,8 @@ IsAnswered status result = (result ≡ status) ⊎ ((result ≡ ReadFault) ⊎ (
 -- a command works on the family
 abbrev pub Accepts : Command → FamilyData → Type 0
 Accepts command.Identity family = MeetsProbe family
+Accepts (command.Basis number) family = IsRunDone family number
+Accepts command.Plain family = HasSystem family
 
 -- What a status tells of what the file gives, and of the bytes that the sink took.
 abbrev pub Tells : Command → Result FamilyData FileFault → Option (List ℕ) → Option (List ℕ) → Status → Type 0
@@ -80,6 +97,9 @@ abbrev pub status_of : Refusal → Status
 status_of (refusal.File fault) = File fault
 status_of (refusal.NotDivisible i) = NotDivisible i
 status_of refusal.NotTangent = NotTangent
+status_of (refusal.PairsSpent sector) = PairsSpent sector
+status_of (refusal.DegreeOver sector) = DegreeOver sector
+status_of (refusal.CandidatesOver sector) = CandidatesOver sector
 status_of refusal.NoMemory = NoMemory
 
 -- What a function gave is the text or the refusal, unless it found no memory.

@@ -5,5 +5,7 @@ pub mod Words
 pub mod Refusals
 pub mod StatusText
 pub mod Identity
+pub mod Basis
+pub mod Plain
 pub mod Causes
 pub mod OneText

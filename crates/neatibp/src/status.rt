@@ -68,6 +68,9 @@ impl From<Refusal> for Status {
             Refusal::File(fault) => Status::File(fault),
             Refusal::NotDivisible(i) => Status::NotDivisible(i),
             Refusal::NotTangent => Status::NotTangent,
+            Refusal::PairsSpent(sector) => Status::PairsSpent(sector),
+            Refusal::DegreeOver(sector) => Status::DegreeOver(sector),
+            Refusal::CandidatesOver(sector) => Status::CandidatesOver(sector),
             Refusal::NoMemory => Status::NoMemory,
         }
     }

@@ -1,11 +1,13 @@
 //! The words of the command line.
 
 ghost use Rattle.std.specs.Prelude.{◌≡◌, map, string_bytes, option_map, IfOk};
+ghost use Rattle.std.specs.Char.{is_ascii_digit};
+ghost use Rattle.std.specs.List.{list_all};
 ghost use Rattle.clap.specs.Walk.{rows_of};
 ghost use Rattle.clap.specs.Matches.{found_of};
 ghost use Rattle.clap.specs.Simple.{app_of};
 ghost use Rattle.neatibp.specs.Program.{program, rows_found};
-ghost use Rattle.neatibp.specs.Words.{command_of_parts, command_of, Gives};
+ghost use Rattle.neatibp.specs.Words.{is_number, number_in, command_of_parts, command_of, Gives};
 
 use clap::error::ErrorKind;
 use clap::{Arg, ArgMatches};
@@ -16,6 +18,10 @@ use std::alloc::{AllocError, Global};
 pub enum Command {
     /// The row of the identity of the file's probe.
     Identity,
+    /// The reduced basis of the sector of this number.
+    Basis(u16),
+    /// The system.
+    Plain,
 }
 
 /// Why the words are no command.
@@ -57,6 +63,39 @@ fn matches_of<'a>(alloc: Global, words: &'a [String]) -> Result<ArgMatches<'a>, 
     }
 }
 
+// The most digits of a number.
+const MOST_DIGITS: usize = 4;
+
+fn is_digit(byte: u8) -> bool
+    ensures { result ≡ is_ascii_digit byte }
+{
+    byte.is_ascii_digit()
+}
+
+fn are_digits(word: &[u8]) -> bool
+    ensures { result ≡ list_all is_ascii_digit word.now }
+{
+    word.iter().all(|byte| is_digit(*byte))
+}
+
+fn is_number(word: &[u8]) -> bool
+    ensures { result ≡ is_number word.now }
+{
+    1 <= word.len() && word.len() <= MOST_DIGITS && are_digits(word)
+}
+
+// The value of a number.
+#[tactic(auto, unfolding(crate::specs::Words::number_in))]
+fn number_in(word: &str) -> Option<u16>
+    ensures { result ≡ number_in word.now }
+{
+    if is_number(word.as_bytes()) {
+        word.parse().ok()
+    } else {
+        None
+    }
+}
+
 fn command_of_parts(
     command: Option<&str>,
     number: Option<&str>,
@@ -67,6 +106,8 @@ fn command_of_parts(
 {
     match (command?, number, workers) {
         ("identity", None, None) => Some(Command::Identity),
+        ("plain", None, None) => Some(Command::Plain),
+        ("basis", Some(number), None) => Some(Command::Basis(number_in(number)?)),
         _ => None,
     }
 }

@@ -1,8 +1,9 @@
-use Rattle.std.proofs.Common.{◌≡◌, sym, ap, ◌∙◌, inr}
+use Rattle.std.proofs.Common.{◌≡◌, ap, ◌∙◌, inr}
 use Rattle.std.specs.Prelude.{IsOkAnd, ◌⊎◌}
 use Rattle.ibp_outside.specs.Causes.{Rose}
 use Rattle.neatibp.specs.declared.status.Status.TheVariants.{Done, WriteFault, NoMemory}
-use Rattle.neatibp.specs.Causes.{Accepts, Tells, IsRefused, IsAnswered, status_of}
+use Rattle.family_file.proofs.FamilyLimits.{accepted_within}
+use Rattle.neatibp.specs.Causes.{need_of, Accepts, Tells, IsRefused, IsAnswered, status_of}
 use Rattle.neatibp.proofs.Exact.{answered}
 use Rattle.neatibp.proofs.Told.{told_of, told_refusal, refused}
 use Rattle.neatibp.proofs.run.run_calm.Goals as goal
@@ -28,20 +29,20 @@ returns-in-Err-text_of-clause-complete g c =
     let read_faults = g.S.Source.faults in
     let write_faults = g.K.Sink.faults in
     told_of (λ asked given. IsOkAnd given (Accepts asked) → ¬ Rose (read_faults c.args.source.now) (read_faults c.read_input.new.source) → ¬ Rose (write_faults c.args.sink.now) (write_faults c.args.sink.now) → (c.from-in-Err-text_of.result ≡ Done) ⊎ (c.from-in-Err-text_of.result ≡ NoMemory)) _ c.in-Ok.command _ _ c.in-Ok-read_input.bytes.items c.in-Ok.ensures c.in-Ok-read_input.ensures.bytes
-    (λ meets read write. inr (c.from-in-Err-text_of.ensures ∙ ap status_of (refused c.in-Err-text_of.refusal _ _ (rw c.deref.ensures.value at c.in-Err-text_of.ensures) meets)))
+    (λ meets read write. inr (c.from-in-Err-text_of.ensures ∙ ap status_of (refused c.in-Err-text_of.refusal _ _ (accepted_within (need_of c.in-Ok.command) c.in-Ok-read_input.bytes.items) (rw c.deref.ensures.value at c.in-Err-text_of.ensures) meets)))
 
 pub returns-in-Err-text_of-clause-refused : goal.returns-in-Err-text_of-clause-refused
 returns-in-Err-text_of-clause-refused g c command status =
     let taken = g.K.Sink.taken c.args.sink.now in
     told_of (λ asked given. IsRefused asked given status → IsAnswered status c.from-in-Err-text_of.result) _ c.in-Ok.command _ _ c.in-Ok-read_input.bytes.items c.in-Ok.ensures c.in-Ok-read_input.ensures.bytes
-    (answered _ _ taken taken status c.from-in-Err-text_of.result (rw c.from-in-Err-text_of.ensures (told_refusal c.in-Err-text_of.refusal _ _ taken (rw c.deref.ensures.value at c.in-Err-text_of.ensures)))) command
+    (answered _ _ (accepted_within (need_of c.in-Ok.command) c.in-Ok-read_input.bytes.items) taken taken status c.from-in-Err-text_of.result (rw c.from-in-Err-text_of.ensures (told_refusal c.in-Err-text_of.refusal _ _ taken (rw c.deref.ensures.value at c.in-Err-text_of.ensures)))) command
 
 pub returns-in-Ok-write_text-clause-refused : goal.returns-in-Ok-write_text-clause-refused
 returns-in-Ok-write_text-clause-refused g c command status =
     told_of (λ asked given. IsRefused asked given status → IsAnswered status Done) _ c.in-Ok.command _ _ c.in-Ok-read_input.bytes.items c.in-Ok.ensures c.in-Ok-read_input.ensures.bytes
-    (answered _ _ (g.K.Sink.taken c.args.sink.now) (g.K.Sink.taken c.write_text.new.sink) status Done (c.in-Ok-text_of.text.items, rw c.deref.ensures.value at c.in-Ok-text_of.ensures, rw c.deref-2.ensures.value at c.in-Ok-write_text.ensures.ok)) command
+    (answered _ _ (accepted_within (need_of c.in-Ok.command) c.in-Ok-read_input.bytes.items) (g.K.Sink.taken c.args.sink.now) (g.K.Sink.taken c.write_text.new.sink) status Done (c.in-Ok-text_of.text.items, rw c.deref.ensures.value at c.in-Ok-text_of.ensures, rw c.deref-2.ensures.value at c.in-Ok-write_text.ensures.ok)) command
 
 pub returns-clause-refused : goal.returns-clause-refused
 returns-clause-refused g c command status =
     told_of (λ asked given. IsRefused asked given status → IsAnswered status WriteFault) _ c.in-Ok.command _ _ c.in-Ok-read_input.bytes.items c.in-Ok.ensures c.in-Ok-read_input.ensures.bytes
-    (answered _ _ (g.K.Sink.taken c.args.sink.now) (g.K.Sink.taken c.write_text.new.sink) status WriteFault (c.in-Ok-text_of.text.items, rw c.deref.ensures.value at c.in-Ok-text_of.ensures, rw c.deref-2.ensures.value at c.in-Err-write_text.ensures.err)) command
+    (answered _ _ (accepted_within (need_of c.in-Ok.command) c.in-Ok-read_input.bytes.items) (g.K.Sink.taken c.args.sink.now) (g.K.Sink.taken c.write_text.new.sink) status WriteFault (c.in-Ok-text_of.text.items, rw c.deref.ensures.value at c.in-Ok-text_of.ensures, rw c.deref-2.ensures.value at c.in-Err-write_text.ensures.err)) command
