@@ -1,5 +1,5 @@
 -- One step of an elimination: the term at a lead is subtracted by a multiple of the row with that lead.
-use Rattle.std.proofs.Common.{◌≡◌, ◌≢◌, inl, inr, ℕ, zero, suc, ◌+◌, ◌*◌, ◌%◌, ◌<◌, ◌≤◌, Option, Some, None, List, [], ◌∷◌, ◌++◌, length, get_or, take, drop, sym, refl, ap, subst, ◌∙◌, ⊎_elim, lit<, arith}
+use Rattle.std.proofs.Common.{◌≡◌, ◌≢◌, inl, inr, ℕ, zero, suc, ◌+◌, ◌*◌, ◌%◌, ◌<◌, ◌≤◌, Option, Some, None, List, [], ◌∷◌, ◌++◌, length, append-nil, get_or, take, drop, sym, refl, ap, subst, ◌∙◌, ⊎_elim, lit<, arith}
 use Rattle.std.specs.Prelude.{ℤ, slice_get}
 use Rattle.std.specs.Ordering.{eq_by_cmp}
 use Rattle.std.specs.declared.cmp.Ordering.TheVariants.{Less, Equal, Greater}
@@ -15,6 +15,8 @@ use Rattle.ibp_algebra.specs.FormalSum.{FormalSum, weighted_sum, AllKeys, AllBel
 use Rattle.ibp_field.proofs.Congruence.{IsCongruent-refl, IsCongruent-trans, IsCongruent-mul, IsCongruent-mod, IsCongruent-from_eq}
 use Rattle.ibp_field.proofs.Inverse.{neg_mod-add}
 use Rattle.ibp_algebra.proofs.Canonical.{order_refl}
+use Rattle.ibp_algebra.proofs.SumLaws.{SameCoefficients-refl}
+use Rattle.ibp_algebra.proofs.ZeroDivisors.{AllKeys-append}
 use Rattle.ibp_algebra.proofs.Weights.{unit_weight, weighted_sum-append, weighted_sum-scale, weighted_sum-SameCoefficients, SameCoefficients-from_weights}
 use Rattle.ibp_algebra.specs.Combination.{combination}
 use Rattle.ibp_algebra.specs.Spans.{row_at, IsLead, coefficient_by}
@@ -137,6 +139,56 @@ module _ (rest rest' reduced : IntegralSum) (value inverse factor negative : ℕ
       in
       prefix_kept integral_cmp integral_cmp_total same_integrals lead rest rest' at (lead, value) p q within key (unchanged_above h) (gone_at_lead one coefficient_is)
 
+-- ---- what an elimination keeps
+
+-- what is left, and what was subtracted, give the row
+pub record IsElimination (es : Entries) (row rest : IntegralSum) (steps : FormalSum ℕ) : Type 0 where
+  pub sum : SameRow row (rest ++ combination (row_at (reduced_rows es)) steps)
+  pub places : AllKeys (λ place. place < length es) steps
+  pub canonical : IsCanonical integral_cmp rest
+
+pub IsElimination-start : (es : Entries) (row rest : IntegralSum) (steps : FormalSum ℕ) → rest ≡ row → steps ≡ [] → IsCanonical integral_cmp rest → IsElimination es row rest steps
+IsElimination-start es row rest steps rest_is steps_are canonical =
+    let at = row_at (reduced_rows es) in
+    let whole : SameRow row (row ++ combination at []) =
+    subst (λ (f : IntegralSum). SameRow row f) (sym (append-nil row)) (SameCoefficients-refl (eq_by_cmp integral_cmp) row)
+    in
+    subst (IsElimination es row rest) (sym steps_are)
+    (record {
+      sum = subst (λ (f : IntegralSum). SameRow row (f ++ combination at [])) (sym rest_is) whole;
+      places = tt;
+      canonical = canonical;
+    })
+
+-- one step: the term is the lead of the kept row, and its multiple is subtracted
+pub record IsStep (es : Entries) (rest rest' : IntegralSum) (steps steps' : FormalSum ℕ) (at place : ℕ) (t : List ℤ × ℕ) (kept : Kept) : Type 0 where
+  pub entry : slice_get es place ≡ Some (t.0, kept)
+  pub term : slice_get rest at ≡ Some t
+  pub sum : SameRow rest' (rest ++ scale (neg_mod (mul_mod t.1 kept.inverse)) kept.reduced)
+  pub more : steps' ≡ steps ++ (place, mul_mod t.1 kept.inverse) ∷ []
+  pub canonical : IsCanonical integral_cmp rest'
+
+module _ (es : Entries) (rest rest' : IntegralSum) (steps steps' : FormalSum ℕ) (at place : ℕ) (t : List ℤ × ℕ) (kept : Kept) (h : EchelonFrom 0 es)
+    (step : IsStep es rest rest' steps steps' at place t kept) where
+  pub IsElimination-step : (row : IntegralSum) → IsElimination es row rest steps → IsElimination es row rest' steps'
+  IsElimination-step row before =
+      let entry = IsEntry-at 0 es place _ h step.entry in
+      let rows = row_at (reduced_rows es) in
+      let factor = mul_mod t.1 kept.inverse in
+      record {
+        sum = subst (λ (all : FormalSum ℕ). SameRow row (rest' ++ combination rows all)) (sym step.more)
+            (sum_kept rest rest' kept.reduced t.1 kept.inverse factor (neg_mod factor) t.0 refl refl step.sum row rows steps place entry.row before.sum);
+        places = subst (AllKeys (λ i. i < length es)) (sym step.more) (AllKeys-append (λ i. i < length es) steps _ before.places (entry.within, tt));
+        canonical = step.canonical;
+      }
+
+  -- the terms before the place stay, and the others are below its integral
+  pub step_below : IsCanonical integral_cmp rest → (take at rest' ≡ take at rest) × AllBelow integral_cmp t.0 (drop at rest')
+  step_below canonical =
+      let entry = IsEntry-at 0 es place _ h step.entry in
+      let factor = mul_mod t.1 kept.inverse in
+      rest_kept rest rest' kept.reduced t.1 kept.inverse factor (neg_mod factor) t.0 refl refl step.sum at canonical step.canonical entry.lead entry.inverse step.term
+
 -- ---- the terms at no lead
 
 pub untouched_join : (es : Entries) (f : IntegralSum) (from at : ℕ) → IsUntouched es f 0 from → IsUntouched es f from at → IsUntouched es f 0 at
@@ -187,3 +239,10 @@ measure_falls es f g from at t h le within is p below =
     let t_is : t ≡ get_or f at t = let one : Some (get_or f at t) ≡ Some t = sym (slice_get-get_or f at t within) ∙ is in cc in
     subst (λ (l : IntegralSum). pivots_left es (drop at g) < pivots_left es l) (sym (drop-cons f from t (omega arith)))
     (pivots_fall es (drop at g) s.0 t.0 p (not_below f from at s t h le within s_is t_is) below)
+
+module _ (es : Entries) (rest rest' : IntegralSum) (steps steps' : FormalSum ℕ) (at place : ℕ) (t : List ℤ × ℕ) (kept : Kept) (h : EchelonFrom 0 es)
+    (step : IsStep es rest rest' steps steps' at place t kept) where
+  pub step_falls : (from : ℕ) → from ≤ at → IsCanonical integral_cmp rest → pivots_left es (drop at rest') < pivots_left es (drop from rest)
+  step_falls from le canonical =
+      measure_falls es rest rest' from at t canonical le (slice_get_within rest at t step.term) step.term (IsEntry-at 0 es place _ h step.entry).pivot
+      (step_below es rest rest' steps steps' at place t kept h step canonical).1

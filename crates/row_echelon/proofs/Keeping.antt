@@ -22,7 +22,7 @@ use Rattle.ibp_algebra.specs.Combination.{combination}
 use Rattle.ibp_algebra.specs.Spans.{row_at, SameSum, InSpan, IsLead, coefficient_by}
 use Rattle.sparse_rows.specs.Rows.{IntegralSum, SameRow}
 use Rattle.ibp_algebra.proofs.CombinationLaws.{combination-weights, combination-rows}
-use Rattle.ibp_algebra.proofs.Members.{order_decides, AllKeys-counting, InSpan-same, InSpan-scale, InSpan-IsSubspace}
+use Rattle.ibp_algebra.proofs.Members.{order_decides, InSpan-same, InSpan-scale, InSpan-IsSubspace}
 use Rattle.ibp_algebra.proofs.Combinations.{AllKeys-weaker}
 use Rattle.ibp_algebra.proofs.Independence.{solved_row}
 use Rattle.ibp_algebra.proofs.Leads.{IsLead-canonical}
@@ -202,11 +202,11 @@ originals-push before (x ∷ es) e =
 
 -- ---- what an elimination shows
 
--- what is left of a row is no member of the span, unless nothing is left
+-- what is left of a row is no member of the span, unless its lead is one of theirs
 pub not_in_span : (es : Entries) (row rest : IntegralSum) (steps : FormalSum ℕ) (lead : List ℤ) → IsEchelon es
-    → SameRow row (rest ++ combination (row_at (reduced_rows es)) steps) → AllKeys (λ i. i < length es) steps → AllKeys (NoPivot es) rest → IsLead integral_cmp rest lead
+    → SameRow row (rest ++ combination (row_at (reduced_rows es)) steps) → AllKeys (λ i. i < length es) steps → NoPivot es lead → IsLead integral_cmp rest lead
     → InKeptSpan (originals [] es) row → ⊥
-not_in_span es row rest steps lead h sum places reduced is member =
+not_in_span es row rest steps lead h sum places apart is member =
     let rows = row_at (reduced_rows es) in
     let taken = combination rows steps in
     let space = InSpan-IsSubspace integral_cmp integral_cmp_total same_integrals rows (λ i. i < length es) in
@@ -218,8 +218,7 @@ not_in_span es row rest steps lead h sum places reduced is member =
     space.alike ((rest ++ taken) ++ scale 2147483646 taken) rest (taken_off rest taken)
     (space.append (rest ++ taken) (scale 2147483646 taken) whole (space.multiple 2147483646 taken steps_in))
     in
-    not_both es lead (AllKeys-counting integral_cmp integral_cmp_total same_integrals (NoPivot es) rest reduced lead is.occurs)
-    (lead_is_pivot es h.form rest lead left_in is)
+    not_both es lead apart (lead_is_pivot es h.form rest lead left_in is)
 
 -- and where nothing is left the row is one
 pub in_span : (es : Entries) (row rest : IntegralSum) (steps : FormalSum ℕ) → IsEchelon es
@@ -285,6 +284,9 @@ IsFirstTerm-at (x ∷ f) t h e =
       not_zero = λ none. omega (arith, h.0, none);
     })
 
+pub no_pivot_lead : (es : Entries) (f : IntegralSum) (t : List ℤ × ℕ) → Some t ≡ slice_get f 0 → IfSome (slice_get f 0) (λ term. NoPivot es term.0) → NoPivot es t.0
+no_pivot_lead es f t is h = subst (λ o. IfSome o (λ term. NoPivot es term.0)) (sym is) h
+
 pub inverse_there : (inverse : Option ℕ) (value : ℕ) → (IsNone inverse → value ≡ 0) → value ≢ 0 → IsSome inverse
 inverse_there None value none not_zero = absurd (not_zero (none refl))
 inverse_there (Some i) value none not_zero = refl
@@ -293,6 +295,44 @@ pub inverse_is : (inverse : Option ℕ) (i value coefficient : ℕ) → IfSome i
 inverse_is inverse i value coefficient h is value_is =
     let one : mul_mod value i ≡ 1 = subst (λ (o : Option ℕ). IfSome o (λ r. mul_mod value r ≡ 1)) is h in
     omega (arith, one, ap (λ n. i * n) value_is)
+
+-- ---- the row that is kept
+
+-- what is left of a row by its leads, with the first term
+pub record IsLeft (es : Entries) (row : IntegralSum) (t : List ℤ × ℕ) (rest : IntegralSum) (steps : FormalSum ℕ) : Type 0 where
+  pub sum : SameRow row (rest ++ combination (row_at (reduced_rows es)) steps)
+  pub places : AllKeys (λ i. i < length es) steps
+  pub canonical : IsCanonical integral_cmp rest
+  pub first : IsFirstTerm rest t
+  pub apart : NoPivot es t.0
+
+pub IsLeft-copy : (es : Entries) (row : IntegralSum) (t : List ℤ × ℕ) (rest rest' : IntegralSum) (steps steps' : FormalSum ℕ) → rest' ≡ rest → steps' ≡ steps
+    → IsLeft es row t rest steps → IsLeft es row t rest' steps'
+IsLeft-copy es row t rest rest' steps steps' rest_is steps_are h =
+    subst (IsLeft es row t rest') (sym steps_are) (subst (λ (f : IntegralSum). IsLeft es row t f steps) (sym rest_is) h)
+
+-- the row is not in the span, and with what is left of it the entries are an echelon of one row more
+pub record Joins (es : Entries) (row : IntegralSum) (e : List ℤ × Kept) : Type 0 where
+  pub echelon : IsEchelon (es ++ e ∷ [])
+  pub new : ¬ (InKeptSpan (originals [] es) row)
+  pub kept_is : originals [] (es ++ e ∷ []) ≡ originals [] es ++ (e.1.number, row) ∷ []
+
+pub Joins-left : (es : Entries) (row : IntegralSum) (t : List ℤ × ℕ) (kept : Kept) (inverse : Option ℕ) → IsEchelon es → IsBelow (originals [] es) kept.number → IsCanonical integral_cmp row
+    → IsLeft es row t kept.reduced kept.steps.items → IfSome inverse (λ r. mul_mod t.1 r ≡ 1) → inverse ≡ Some kept.inverse → Joins es row (t.0, kept)
+Joins-left es row t kept inverse h below canonical left inverts is =
+    let new = not_in_span es row kept.reduced kept.steps.items t.0 h left.sum left.places left.apart left.first.lead in
+    let joins : MayJoin es (t.0, kept) = record {
+      lead = left.first.lead;
+      canonical = left.canonical;
+      inverse = inverse_is inverse kept.inverse t.1 _ inverts is left.first.value;
+      steps = left.places;
+      apart = left.apart;
+    } in
+    record {
+      echelon = IsEchelon-push es (t.0, kept) row h joins below canonical left.sum new;
+      new = new;
+      kept_is = originals-joined es (t.0, kept) row canonical left.sum;
+    }
 
 -- ---- the numbers of kept rows and one more
 

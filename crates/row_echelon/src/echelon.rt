@@ -6,7 +6,7 @@ ghost use Rattle.ibp_algebra.specs.Spans.{IsReducedForm};
 ghost use Rattle.sparse_rows.specs.Rows.{SameRow};
 ghost use Rattle.row_echelon.specs.Echelons.{row_numbered, IsNumber, InKeptSpan, AreIndependent, IsBelow, Inserts, number_cmp};
 
-use crate::elimination::{append, eliminate};
+use crate::elimination::{append, eliminate, eliminate_leads};
 use crate::inserted::Inserted;
 use crate::kept::Kept;
 use crate::substitution::substitute;
@@ -62,11 +62,12 @@ impl Echelon {
         ensures err { OnErr result (self.new ≡ self.old) }
         ensures independent { AreIndependent self.new }
     {
-        let left = eliminate(self.alloc, &self.kept, row)?;
+        let left = eliminate_leads(self.alloc, &self.kept, row)?;
         match left.rest.lead() {
             None => Ok(Inserted::Dependent),
             Some(first) => {
                 let inverse = first.1.inverse().unwrap();
+                let left = left.compact(self.alloc)?;
                 let entry = Kept {
                     number,
                     reduced: left.rest,
