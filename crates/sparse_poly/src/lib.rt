@@ -4,4 +4,4 @@
 mod poly;
 mod terms;
 
-pub use poly::{Poly, PolyFault};
+pub use poly::{Poly, PolyFault, copy_polynomials};

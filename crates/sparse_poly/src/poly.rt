@@ -4,7 +4,7 @@ ghost use Rattle.ibp_algebra.specs.Exponents.{deg_rev_lex};
 ghost use Rattle.ibp_algebra.specs.Polynomial.{SamePolynomial, IsDivisibleBy, degree_of, derivative, multiply, permute, set_zero};
 
 use crate::terms::{plus_multiple, product_of, sum_of};
-use ibp_base::NoMemory;
+use ibp_base::{List, NoMemory};
 use ibp_field::Residue;
 use mono_order::{MONO_DEGREE, Monomial, VARIABLES};
 use std::alloc::{AllocError, Global};
@@ -80,6 +80,15 @@ impl Poly {
         })
     }
 
+    /// The same polynomial.
+    pub fn copy(&self, alloc: Global) -> Result<Poly, NoMemory>
+        ensures { IfOk result (λ p. p ≡ self.now) }
+    {
+        Ok(Poly {
+            terms: self.terms.to_vec(alloc)?,
+        })
+    }
+
     /// All terms, greatest first by `DegRevLex`.
     pub fn terms(&self) -> &[(Monomial, Residue)]
         ensures same { result.now ≡ self.now }
@@ -148,6 +157,19 @@ impl Poly {
         })
     }
 
+    /// The product of polynomials whose degrees add up to no more than `MONO_DEGREE`.
+    pub fn product(&self, alloc: Global, other: &Poly) -> Result<Poly, NoMemory>
+        requires { degree_of self.now + degree_of other.now ≤ MONO_DEGREE }
+        ensures product { IfOk result (λ p. SamePolynomial p (multiply self.now other.now)) }
+        ensures canonical { IfOk result (λ p. IsCanonical deg_rev_lex p) }
+    {
+        match self.mul(alloc, other) {
+            Ok(product) => Ok(product),
+            Err(PolyFault::NoMemory) => Err(NoMemory),
+            Err(PolyFault::DegreeOver) => unreachable!(),
+        }
+    }
+
     /// The derivative by z_i, with i from 1.
     pub fn derivative(&self, alloc: Global, i: u8) -> Result<Poly, NoMemory>
         requires { (0 < i) × (i ≤ VARIABLES) }
@@ -195,6 +217,17 @@ impl Poly {
         }
         Poly::from_terms(alloc, &terms)
     }
+}
+
+/// The same polynomials, in the same order.
+pub fn copy_polynomials(alloc: Global, polynomials: &[Poly]) -> Result<List<Poly>, NoMemory>
+    ensures { IfOk result (λ copies. copies ≡ polynomials.now) }
+{
+    let mut copies = Vec::new(alloc);
+    for polynomial in polynomials {
+        copies.push(polynomial.copy(alloc)?)?;
+    }
+    Ok(List::from_vec(copies))
 }
 
 impl PartialEq for Poly {

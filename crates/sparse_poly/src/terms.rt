@@ -72,9 +72,29 @@ fn shifted(
     Ok(moved)
 }
 
-/// The product. The left terms are halved until one is left, and the products of the halves are added, so no
-/// list of all pairs is made.
+/// The product.
 pub fn product_of(
+    alloc: Global,
+    left: &[(Monomial, Residue)],
+    right: &[(Monomial, Residue)],
+) -> Result<Vec<(Monomial, Residue)>, AllocError>
+    requires left { IsCanonical deg_rev_lex left.now }
+    requires right { IsCanonical deg_rev_lex right.now }
+    requires fits { AllKeys (λ m. AllKeys (λ k. sum m + sum k ≤ MONO_DEGREE) right.now) left.now }
+    requires turned { AllKeys (λ m. AllKeys (λ k. sum m + sum k ≤ MONO_DEGREE) left.now) right.now }
+    ensures product { IfOk result (λ v. SamePolynomial v.items (multiply left.now right.now)) }
+    ensures canonical { IfOk result (λ v. IsCanonical deg_rev_lex v.items) }
+{
+    if left.len() <= right.len() {
+        product_by_halves(alloc, left, right)
+    } else {
+        product_by_halves(alloc, right, left)
+    }
+}
+
+// The product. The left terms are halved until one is left, and the products of the halves are added, so no
+// list of all pairs is made.
+fn product_by_halves(
     alloc: Global,
     left: &[(Monomial, Residue)],
     right: &[(Monomial, Residue)],
@@ -93,7 +113,7 @@ pub fn product_of(
         return plus_multiple(alloc, &[], term.1, &moved);
     }
     let middle = left.len() / 2;
-    let first = product_of(alloc, &left[..middle], right)?;
-    let second = product_of(alloc, &left[middle..], right)?;
+    let first = product_by_halves(alloc, &left[..middle], right)?;
+    let second = product_by_halves(alloc, &left[middle..], right)?;
     plus_multiple(alloc, &first, Residue::one(), &second)
 }

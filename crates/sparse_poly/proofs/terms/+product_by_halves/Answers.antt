@@ -4,7 +4,7 @@ use Rattle.ibp_algebra.specs.FormalSum.{AllKeys, scale}
 use Rattle.ibp_algebra.specs.Polynomial.{Polynomial, SamePolynomial}
 use Rattle.mono_order.specs.declared.limits.TheConstants.{MONO_DEGREE}
 use Rattle.sparse_poly.proofs.Loops.{AllKeys-item, AllKeys-take, AllKeys-drop, halves, product_of_one, product_of_parts}
-use Rattle.sparse_poly.proofs.terms.+product_of.Goals as goal
+use Rattle.sparse_poly.proofs.terms.+product_by_halves.Goals as goal
 
 pub shifted-requires-clause-fits : goal.shifted-requires-clause-fits
 shifted-requires-clause-fits t c =
@@ -17,12 +17,12 @@ returns-then-left-eq1-clause-product t c =
     (c.deref.ensures.value ∙ c.in_ok-moved.ensures.moved) h)
     c.plus_multiple.ensures.sum
 
-pub product_of-requires : goal.product_of-requires
-product_of-requires t c =
+pub product_by_halves-requires : goal.product_by_halves-requires
+product_by_halves-requires t c =
     (search rules, (c.requires.right, AllKeys-take (λ m. AllKeys (λ k. sum m + sum k ≤ MONO_DEGREE) c.args.right.now) c.args.left.now (length c.args.left.now / 2) c.requires.fits))
 
-pub product_of-requires-2 : goal.product_of-requires-2
-product_of-requires-2 t c = (
+pub product_by_halves-requires-2 : goal.product_by_halves-requires-2
+product_by_halves-requires-2 t c = (
   search rules,
   (
     c.requires.right,
