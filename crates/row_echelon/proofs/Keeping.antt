@@ -1,6 +1,6 @@
 -- A row that is not in the span of the kept rows may be kept.
-use Rattle.std.proofs.Common.{◌≡◌, ◌≢◌, ◌⊎◌, inl, inr, ℕ, suc, ◌+◌, ◌*◌, ◌%◌, ◌<◌, Bool, true, false, cond, if◌then◌else◌, ◌==◌, Option, Some, None, List, [], ◌∷◌, ◌++◌, length, map, append_assoc, append-nil, sym, refl, ap, subst, ◌∙◌, ⊎_elim, arith}
-use Rattle.std.specs.Prelude.{ℤ, slice_get, IsSome, IsNone, IfSome}
+use Rattle.std.proofs.Common.{◌≡◌, ◌≢◌, ◌⊎◌, inl, inr, ℕ, suc, ◌+◌, ◌*◌, ◌%◌, ◌<◌, ◌≤◌, ◌^◌, Bool, true, false, cond, if◌then◌else◌, ◌==◌, Option, Some, None, List, [], ◌∷◌, ◌++◌, length, length-append, map, append_assoc, append-nil, sym, refl, ap, subst, ◌∙◌, ⊎_elim, arith}
+use Rattle.std.specs.Prelude.{ℤ, All, slice_get, IsSome, IsNone, IfSome}
 use Rattle.std.specs.Map.{lookup}
 use Rattle.std.specs.Ordering.{eq_by_cmp, nat_cmp}
 use Rattle.std.specs.Cmp.{nat_cmp_total}
@@ -41,6 +41,7 @@ no_numbers (t ∷ c) h = absurd (omega (arith, h.0.1))
 
 pub IsEchelon-nil : IsEchelon []
 IsEchelon-nil = record {
+  few = omega arith;
   form = tt;
   numbers = tt;
   independent = record { only_zero = λ c among zero. subst (λ d. SameSum nat_cmp d []) (sym (no_numbers c among)) (SameCoefficients-refl (eq_by_cmp nat_cmp) []) };
@@ -245,11 +246,31 @@ pub originals-joined : (es : Entries) (e : List ℤ × Kept) (row : IntegralSum)
 originals-joined es e row canonical sum =
     originals-push [] es e ∙ ap (λ (f : IntegralSum). originals [] es ++ (e.1.number, f) ∷ []) (original_is es row e.1.reduced e.1.steps.items canonical sum)
 
-pub IsEchelon-push : (es : Entries) (e : List ℤ × Kept) (row : IntegralSum) → IsEchelon es → MayJoin es e → IsBelow (originals [] es) e.1.number → IsCanonical integral_cmp row
+length-originals : (before : List IntegralSum) (es : Entries) → length (originals before es) ≡ length es
+length-originals before [] = refl
+length-originals before (e ∷ es) = ap suc (length-originals (before ++ e.1.reduced ∷ []) es)
+
+-- ascending numbers from low to below n are no more than n less low
+counted : (low n : ℕ) (kept : KeptRows) → low ≤ n → All (λ row. low ≤ row.0) kept → Ascends kept → IsBelow kept n → low + length kept ≤ n
+counted low n [] fits above ascends below = omega (arith, fits)
+counted low n (k ∷ others) fits above ascends below =
+    let first : low ≤ k.0 = above 0 k (omega arith) in
+    let less : k.0 < n = below 0 k (omega arith) in
+    let rest : suc k.0 + length others ≤ n =
+    counted (suc k.0) n others (omega (arith, less)) (λ i d within. omega (arith, ascends.0 i d within)) ascends.1 (λ i d within. below (suc i) d (omega arith)) in
+    omega (arith, first, rest)
+
+few_joined : (es : Entries) (e : List ℤ × Kept) → Ascends (originals [] es) → IsBelow (originals [] es) e.1.number → e.1.number < 2 ^ 32 → length (es ++ e ∷ []) ≤ 2 ^ 32
+few_joined es e ascends below bound =
+    let few : 0 + length (originals [] es) ≤ e.1.number = counted 0 e.1.number (originals [] es) (omega arith) (λ i d within. omega arith) ascends below in
+    omega (arith, few, bound, length-originals [] es, length-append es (e ∷ []))
+
+pub IsEchelon-push : (es : Entries) (e : List ℤ × Kept) (row : IntegralSum) → IsEchelon es → MayJoin es e → IsBelow (originals [] es) e.1.number → e.1.number < 2 ^ 32 → IsCanonical integral_cmp row
     → SameRow row (e.1.reduced ++ combination (row_at (reduced_rows es)) e.1.steps.items) → ¬ (InKeptSpan (originals [] es) row) → IsEchelon (es ++ e ∷ [])
-IsEchelon-push es e row h joins below canonical sum new =
+IsEchelon-push es e row h joins below bound canonical sum new =
     let kept_is = originals-joined es e row canonical sum in
     record {
+      few = few_joined es e h.numbers below bound;
       form = EchelonFrom-push 0 es e h.form joins.lead joins.canonical joins.inverse (subst (λ n. AllKeys (λ i. i < n) e.1.steps.items) (omega arith) joins.steps) joins.apart;
       numbers = subst Ascends (sym kept_is) (Ascends-push (originals [] es) e.1.number row h.numbers below);
       independent = subst AreIndependent (sym kept_is) (AreIndependent-push (originals [] es) e.1.number row h.independent below new);
@@ -317,9 +338,9 @@ pub record Joins (es : Entries) (row : IntegralSum) (e : List ℤ × Kept) : Typ
   pub new : ¬ (InKeptSpan (originals [] es) row)
   pub kept_is : originals [] (es ++ e ∷ []) ≡ originals [] es ++ (e.1.number, row) ∷ []
 
-pub Joins-left : (es : Entries) (row : IntegralSum) (t : List ℤ × ℕ) (kept : Kept) (inverse : Option ℕ) → IsEchelon es → IsBelow (originals [] es) kept.number → IsCanonical integral_cmp row
+pub Joins-left : (es : Entries) (row : IntegralSum) (t : List ℤ × ℕ) (kept : Kept) (inverse : Option ℕ) → IsEchelon es → IsBelow (originals [] es) kept.number → kept.number < 2 ^ 32 → IsCanonical integral_cmp row
     → IsLeft es row t kept.reduced kept.steps.items → IfSome inverse (λ r. mul_mod t.1 r ≡ 1) → inverse ≡ Some kept.inverse → Joins es row (t.0, kept)
-Joins-left es row t kept inverse h below canonical left inverts is =
+Joins-left es row t kept inverse h below bound canonical left inverts is =
     let new = not_in_span es row kept.reduced kept.steps.items t.0 h left.sum left.places left.apart left.first.lead in
     let joins : MayJoin es (t.0, kept) = record {
       lead = left.first.lead;
@@ -329,7 +350,7 @@ Joins-left es row t kept inverse h below canonical left inverts is =
       apart = left.apart;
     } in
     record {
-      echelon = IsEchelon-push es (t.0, kept) row h joins below canonical left.sum new;
+      echelon = IsEchelon-push es (t.0, kept) row h joins below bound canonical left.sum new;
       new = new;
       kept_is = originals-joined es (t.0, kept) row canonical left.sum;
     }

@@ -1,5 +1,5 @@
 -- What an echelon keeps: entries of a lead and a kept row.
-use Rattle.std.specs.Prelude.{◌≡◌, ◌≢◌, ℕ, ℤ, suc, ◌*◌, ◌%◌, ◌<◌, ◌≤◌, List, [], ◌∷◌, ◌++◌, map, All, slice_index_or}
+use Rattle.std.specs.Prelude.{◌≡◌, ◌≢◌, ℕ, ℤ, suc, ◌*◌, ◌%◌, ◌^◌, ◌<◌, ◌≤◌, List, [], ◌∷◌, ◌++◌, length, map, All, slice_index_or}
 use Rattle.ibp_algebra.specs.FormalSum.{FormalSum, AllKeys, IsCanonical, normal_form}
 use Rattle.sector_lattice.specs.Sectors.{integral_cmp}
 use Rattle.ibp_algebra.specs.Combination.{combination}
@@ -43,7 +43,9 @@ abbrev pub Ascends : KeptRows → Type 0
 Ascends [] = Unit {0}
 Ascends (kept ∷ others) = All (λ row. kept.0 < row.0) others × Ascends others
 
+-- the numbers of places fit where those of rows do
 pub record IsEchelon (entries : Entries) : Type 0 where
+  pub few : length entries ≤ 2 ^ 32
   pub form : EchelonFrom 0 entries
   pub numbers : Ascends (originals [] entries)
   pub independent : AreIndependent (originals [] entries)

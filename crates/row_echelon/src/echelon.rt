@@ -67,13 +67,7 @@ impl Echelon {
             None => Ok(Inserted::Dependent),
             Some(first) => {
                 let inverse = first.1.inverse().unwrap();
-                let left = left.compact(self.alloc)?;
-                let entry = Kept {
-                    number,
-                    reduced: left.rest,
-                    steps: left.steps,
-                    inverse,
-                };
+                let entry = Kept::of(self.alloc, number, &left, inverse)?;
                 append(&mut self.kept, first.0, entry)?;
                 Ok(Inserted::Kept)
             }

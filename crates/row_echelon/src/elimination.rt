@@ -1,5 +1,5 @@
 // The elimination of the leads of kept rows from a row.
-ghost use Rattle.std.specs.Prelude.{◌≡◌, ◌<◌, ◌≤◌, [], ◌∷◌, ◌++◌, length, IfOk, IfSome, IfNone, slice_get, Some, OnOk, OnErr};
+ghost use Rattle.std.specs.Prelude.{◌≡◌, ◌<◌, ◌≤◌, ◌^◌, [], ◌∷◌, ◌++◌, length, IfOk, IfSome, IfNone, slice_get, Some, OnOk, OnErr};
 ghost use Rattle.ibp_field.specs.Arithmetic.{mul_mod, neg_mod};
 ghost use Rattle.ibp_algebra.specs.FormalSum.{AllKeys, IsCanonical, scale};
 ghost use Rattle.sector_lattice.specs.Sectors.{integral_cmp};
@@ -20,7 +20,7 @@ use std::alloc::Global;
 #[derive(Drop)]
 pub struct Eliminated {
     pub rest: Row,
-    pub steps: Vec<(usize, Residue)>,
+    pub steps: Vec<(u32, Residue)>,
 }
 
 /// A term at which a kept row has its lead.
@@ -28,7 +28,7 @@ pub struct Eliminated {
 pub struct Found<'a> {
     pub at: usize,
     pub term: (Integral, Residue),
-    pub place: usize,
+    pub place: u32,
     pub kept: &'a Kept,
 }
 
@@ -58,21 +58,11 @@ impl Eliminated {
         self.steps.push((found.place, factor))?;
         Ok(())
     }
-
-    /// The same, with no room beyond its length.
-    pub fn compact(self, alloc: Global) -> Result<Eliminated, NoMemory>
-        ensures rest { IfOk result (λ compact. compact.rest ≡ self.rest) }
-        ensures steps { IfOk result (λ compact. compact.steps.items ≡ self.steps.items) }
-    {
-        Ok(Eliminated {
-            rest: self.rest.copy(alloc)?,
-            steps: self.steps.to_vec(alloc)?,
-        })
-    }
 }
 
 // The term at a place, where it is there and its integral is the lead of a kept row.
 fn pivot_at<'a>(kept: &'a IndexMap<Integral, Kept>, work: &Row, at: usize) -> Option<Found<'a>>
+    requires { length kept.now.entries ≤ 2 ^ 32 }
     ensures none { IfNone result (IfSome (slice_get work.now at) (λ term. NoPivot kept.now.entries term.0)) }
     ensures at { IfSome result (λ found. found.at ≡ at) }
     ensures term { IfSome result (λ found. slice_get work.now found.at ≡ Some found.term) }
@@ -83,13 +73,14 @@ fn pivot_at<'a>(kept: &'a IndexMap<Integral, Kept>, work: &Row, at: usize) -> Op
     Some(Found {
         at,
         term,
-        place,
+        place: place as u32,
         kept,
     })
 }
 
 // The first term at or after a place whose integral is the lead of a kept row.
 fn next_pivot<'a>(kept: &'a IndexMap<Integral, Kept>, work: &Row, from: usize) -> Option<Found<'a>>
+    requires { length kept.now.entries ≤ 2 ^ 32 }
     ensures none { IfNone result (IsUntouched kept.now.entries work.now from (length work.now)) }
     ensures within { IfSome result (λ found. (from ≤ found.at) × (found.at < length work.now)) }
     ensures before { IfSome result (λ found. IsUntouched kept.now.entries work.now from found.at) }

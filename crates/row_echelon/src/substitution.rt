@@ -16,12 +16,13 @@ use sector_lattice::Integral;
 use std::alloc::Global;
 
 /// Adds a multiple of the steps to the sums by place.
-fn add_steps(sums: &mut [Residue], factor: Residue, steps: &[(usize, Residue)])
+fn add_steps(sums: &mut [Residue], factor: Residue, steps: &[(u32, Residue)])
     requires { AllKeys (λ place. place < length sums.old) steps.now }
     ensures { SameSum nat_cmp (by_place 0 sums.new) (by_place 0 sums.old ++ scale factor steps.now) }
 {
     for (place, value) in steps {
-        sums[*place] = sums[*place].add(factor.mul(*value));
+        let place = *place as usize;
+        sums[place] = sums[place].add(factor.mul(*value));
     }
 }
 
@@ -30,7 +31,7 @@ fn add_steps(sums: &mut [Residue], factor: Residue, steps: &[(usize, Residue)])
 pub fn substitute(
     alloc: Global,
     kept: &IndexMap<Integral, Kept>,
-    steps: &[(usize, Residue)],
+    steps: &[(u32, Residue)],
 ) -> Result<Vec<(u32, Residue)>, NoMemory>
     requires echelon { IsEchelon kept.now.entries }
     requires places { AllKeys (λ place. place < length kept.now.entries) steps.now }

@@ -1,4 +1,4 @@
-use Rattle.std.proofs.Common.{[], ◌∷◌, ◌++◌, subst, sym, refl, ◌∙◌, ap}
+use Rattle.std.proofs.Common.{◌≡◌, ◌<◌, ◌^◌, Some, [], ◌∷◌, ◌++◌, subst, sym, refl, ◌∙◌, ap}
 use Rattle.row_echelon.specs.KeptRows.{IsEchelon, originals}
 use Rattle.row_echelon.specs.Echelons.{KeptRows, InKeptSpan, IsBelow}
 use Rattle.row_echelon.proofs.Keeping.{IsLeft, IsLeft-copy, Joins, Joins-left, in_span, no_pivot_lead, IsFirstTerm-at, inverse_there}
@@ -12,12 +12,11 @@ unwrap-inverse-requires c =
 pub append-requires : goal.append-requires
 append-requires c = no_pivot_lead _ _ _ c.in-Some.ensures.first c.in_ok-left.ensures.lead
 
-joins : (c : goal.In_ok-append-in-Some)
-    → Joins c.self.inside.kept.entries c.args.row.now
-    (c.in-Some.first.0, record { number = c.args.number; reduced = c.in_ok-left-in-Some.left.rest; steps = c.in_ok-left-in-Some.left.steps; inverse = c.unwrap-inverse.result })
+joins : (c : goal.In_ok-append-in-Some) → Joins c.self.inside.kept.entries c.args.row.now (c.in-Some.first.0, c.in_ok-entry-in-Some.entry)
 joins c =
     let es = c.self.inside.kept.entries in
     let left = c.in_ok-left.left in
+    let kept = c.in_ok-entry-in-Some in
     let left_is : IsLeft es c.args.row.now c.in-Some.first left.rest left.steps.items = record {
       sum = c.in_ok-left.ensures.sum;
       places = c.in_ok-left.ensures.places;
@@ -25,10 +24,12 @@ joins c =
       first = IsFirstTerm-at left.rest c.in-Some.first c.in_ok-left.ensures.canonical c.in-Some.ensures.first;
       apart = no_pivot_lead es left.rest c.in-Some.first c.in-Some.ensures.first c.in_ok-left.ensures.lead;
     } in
-    Joins-left es c.args.row.now c.in-Some.first _ c.inverse.result c.self.invariant (subst (λ kept. IsBelow kept c.args.number) (sym c.self.view_is) c.requires)
+    let below : IsBelow (originals [] es) kept.entry.number =
+    subst (IsBelow (originals [] es)) (sym kept.ensures.number) (subst (λ rows. IsBelow rows c.args.number) (sym c.self.view_is) c.requires) in
+    Joins-left es c.args.row.now c.in-Some.first kept.entry c.inverse.result c.self.invariant below (subst (λ n. n < 2 ^ 32) (sym kept.ensures.number) kept.ensures.bound)
     c.in_ok-left.ensures.row
-    (IsLeft-copy es c.args.row.now c.in-Some.first left.rest _ left.steps.items _ c.in_ok-left-in-Some.ensures.rest c.in_ok-left-in-Some.ensures.steps left_is)
-    c.inverse.ensures.inverse c.unwrap-inverse.ensures
+    (IsLeft-copy es c.args.row.now c.in-Some.first left.rest _ left.steps.items _ kept.ensures.reduced kept.ensures.steps left_is)
+    c.inverse.ensures.inverse (c.unwrap-inverse.ensures ∙ ap Some (sym kept.ensures.inverse))
 
 pub invariant_of-self-in-Some : goal.invariant_of-self-in-Some
 invariant_of-self-in-Some c = subst IsEchelon (sym c.in_ok-append-in-Some.ensures.ok) (joins c).echelon
@@ -42,11 +43,15 @@ returns-in-None-clause-ok c =
       refl,
     )
 
-pub returns-in_ok-append-in-Some-clause-ok : goal.returns-in_ok-append-in-Some-clause-ok
-returns-in_ok-append-in-Some-clause-ok c = (
-  subst (λ kept. ¬ (InKeptSpan kept c.args.row.now)) c.self.view_is (joins c).new,
-  ap (originals []) c.in_ok-append-in-Some.ensures.ok ∙ (joins c).kept_is ∙ ap (λ (kept : KeptRows). kept ++ (c.args.number, c.args.row.now) ∷ []) c.self.view_is,
-)
+pub returns-clause-ok : goal.returns-clause-ok
+returns-clause-ok c =
+    let es = c.self.inside.kept.entries in
+    let joined = joins c.before.before.before in
+    let number : ◌≡◌ {A = KeptRows} (originals [] es ++ (c.in_ok-entry-in-Some.entry.number, c.args.row.now) ∷ []) (originals [] es ++ (c.args.number, c.args.row.now) ∷ []) =
+    ap (λ n. let rows : KeptRows = originals [] es ++ (n, c.args.row.now) ∷ [] in rows) c.in_ok-entry-in-Some.ensures.number in (
+      subst (λ kept. ¬ (InKeptSpan kept c.args.row.now)) c.self.view_is joined.new,
+      ap (originals []) c.in_ok-append-in-Some.ensures.ok ∙ joined.kept_is ∙ number ∙ ap (λ (kept : KeptRows). kept ++ (c.args.number, c.args.row.now) ∷ []) c.self.view_is,
+    )
 
-pub returns-in_ok-append-in-Some-clause-independent : goal.returns-in_ok-append-in-Some-clause-independent
-returns-in_ok-append-in-Some-clause-independent c = (invariant_of-self-in-Some c).independent
+pub returns-clause-independent : goal.returns-clause-independent
+returns-clause-independent c = (subst IsEchelon (sym c.in_ok-append-in-Some.ensures.ok) (joins c.before.before.before).echelon).independent
