@@ -4,7 +4,8 @@ use Rattle.std.specs.Prelude.{Option, Some, None, IsSome}
 use Rattle.poly_text.specs.Token.{Token}
 use Rattle.poly_text.specs.Tree.{Tree, IsSum, IsProduct, IsFactor, IsPrimary, IsText}
 use Rattle.poly_text.specs.Grammar.{Terms, Factors, Level, Position, State, empty_level, first_state, product_with, sum_with, whole_sum, next, next_at, closed, run, run_next, complete_at}
-use Rattle.poly_text.specs.Laws.{accepts, complete_run, IsFront}
+use Rattle.poly_text.specs.Faults.{IsFront}
+use Rattle.poly_text.specs.Laws.{accepts, complete_run}
 use Rattle.poly_text.proofs.Accepting.{Tokens, state_at, level_of, text_accepted}
 
 -- what the terms and the factors that were read make of what follows
@@ -196,7 +197,7 @@ next_append : (after : Option State) (ts more : Tokens) → ((state : State) →
 next_append None ts more h = refl
 next_append (Some state) ts more h = h state
 
-run_append : (ts more : Tokens) (state : State) → run state (ts ++ more) ≡ run_next (run state ts) (λ s. run s more)
+pub run_append : (ts more : Tokens) (state : State) → run state (ts ++ more) ≡ run_next (run state ts) (λ s. run s more)
 run_append [] more state = refl
 run_append (token ∷ ts) more state = next_append (next state token) ts more (λ s. run_append ts more s)
 

@@ -6,4 +6,6 @@ pub mod Simulation
 pub mod Steps
 pub mod Accepting
 pub mod Deriving
+pub mod Spelling
+pub mod Places
 pub mod Faulting

@@ -6,4 +6,6 @@ pub mod Sum
 pub mod PolyText
 pub mod Symbols
 pub mod Reading
+pub mod Spelling
+pub mod Faults
 pub mod Laws

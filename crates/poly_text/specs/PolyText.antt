@@ -2,6 +2,7 @@
 -- those of values.
 --     NumbersValue              a finite map from names to numbers;  value_in numbers name    what it has at a name
 --     names_of n number word    what a name stands for, where the variables are z1 to zn
+--     is_known n number word    it stands for something
 --     text_answer n number bytes     the polynomial of a text, as its canonical list of terms, or its fault
 --     number_answer bytes       the number of a text without variables and names, or its fault
 --     Answers result given      the result is the one given, unless memory ran out
@@ -42,13 +43,16 @@ names_of n number word =
     if is_variable_name word then variable_named n word
     else if nat_le (length word) NAME_LIMIT then option_map constant (number word) else None
 
+abbrev pub is_known : ℕ → (List ℕ → Option ℕ) → List ℕ → Bool
+is_known n number word = is_some (names_of n number word)
+
 abbrev pub tree_value : (List ℕ → Option Polynomial) → Result Tree TextFault → Result Polynomial TextFault
 tree_value names (Ok t) = value names t
 tree_value names (Err fault) = Err fault
 
 unfoldable pub text_answer : ℕ → (List ℕ → Option ℕ) → List ℕ → Result Polynomial TextFault
 text_answer n number bytes =
-    tree_value (names_of n number) (tree_of (λ word. is_some (names_of n number word)) (length bytes) (tokens bytes))
+    tree_value (names_of n number) (tree_of (is_known n number) (length bytes) (tokens bytes))
 
 -- a text without variables and names stands for a number
 abbrev pub number_value : Result Polynomial TextFault → Result ℕ TextFault

@@ -13,7 +13,7 @@ use crate::reader::Operand;
 use ibp_base::NoMemory;
 use ibp_field::Residue;
 use mono_order::Monomial;
-use sparse_poly::{Poly, PolyFault};
+use sparse_poly::Poly;
 use std::alloc::Global;
 
 /// A number as a polynomial.
@@ -60,11 +60,7 @@ fn multiplied(alloc: Global, f: &Poly, g: &Poly) -> Result<Poly, NoMemory>
     requires { degree_of f.now + degree_of g.now ≤ MONO_DEGREE }
     ensures { IfOk result (λ p. p ≡ normal_form deg_rev_lex (multiply f.now g.now)) }
 {
-    match f.mul(alloc, g) {
-        Ok(made) => Ok(made),
-        Err(PolyFault::DegreeOver) => unreachable!(),
-        Err(PolyFault::NoMemory) => Err(NoMemory),
-    }
+    f.product(alloc, g)
 }
 
 /// Minus a polynomial.
