@@ -5,7 +5,7 @@ use Rattle.std.specs.Prelude.{IsTrue}
 use Rattle.ibp_algebra.specs.FormalSum.{AllKeys}
 use Rattle.ibp_algebra.proofs.SumLaws.{SameCoefficients-refl, SameCoefficients-sym, SameCoefficients-trans}
 use Rattle.ibp_algebra.specs.Polynomial.{Polynomial, SamePolynomial, IsDivisibleBy, multiply, derivative, derivative_along_from}
-use Rattle.ibp_algebra.specs.Field.{unit_exponents, variable, unstripped_from, unstripped, IsInModule, combination_from, combination}
+use Rattle.ibp_algebra.specs.Field.{unit_exponents, variable, unstripped_from, unstripped, IsInModule, stripped_derivative_from, stripped_derivative}
 use Rattle.ibp_algebra.proofs.ExponentLaws.{get_or-padded_sum}
 use Rattle.ibp_algebra.proofs.Divisibility.{IsDivisibleBy-from_all}
 use Rattle.ibp_algebra.proofs.PolynomialLaws.{SamePolynomial-append, SamePolynomial-multiply, multiply_comm, multiply_assoc}
@@ -20,10 +20,10 @@ one_product : (i : ℕ) (c p : Polynomial) (b : Bool)
 one_product i c p true = variable_moved (variable i) c (derivative i p)
 one_product i c p false = SameCoefficients-refl _ (multiply c (derivative i p))
 
-combination_is : (i : ℕ) (in_sector : ℕ → Bool) (c : List Polynomial) (p : Polynomial)
-    → SamePolynomial (derivative_along_from i (unstripped_from i in_sector c) p) (combination_from i in_sector c p)
-combination_is i in_sector [] p = SameCoefficients-refl _ []
-combination_is i in_sector (c ∷ others) p = SamePolynomial-append (one_product i c p (in_sector i)) (combination_is (suc i) in_sector others p)
+stripped_derivative-is : (i : ℕ) (in_sector : ℕ → Bool) (c : List Polynomial) (p : Polynomial)
+    → SamePolynomial (derivative_along_from i (unstripped_from i in_sector c) p) (stripped_derivative_from i in_sector c p)
+stripped_derivative-is i in_sector [] p = SameCoefficients-refl _ []
+stripped_derivative-is i in_sector (c ∷ others) p = SamePolynomial-append (one_product i c p (in_sector i)) (stripped_derivative-is (suc i) in_sector others p)
 
 own_exponent : (i : ℕ) → get_or (unit_exponents i) i 0 ≡ 1
 own_exponent zero = refl
@@ -52,17 +52,17 @@ unstripped_divisible place in_sector (c ∷ others) (suc i) below h =
     (unstripped_divisible (suc place) in_sector others i (omega arith) (subst (λ k. IsTrue (in_sector k)) next h))
 
 -- a solution of the equation is in the module
-pub IsInModule-from_combination : (p : Polynomial) (in_sector : ℕ → Bool) (c : List Polynomial) (b : Polynomial)
-    → SamePolynomial (combination in_sector c p) (multiply b p) → IsInModule p in_sector c b
-IsInModule-from_combination p in_sector c b h =
+pub IsInModule-from_derivative : (p : Polynomial) (in_sector : ℕ → Bool) (c : List Polynomial) (b : Polynomial)
+    → SamePolynomial (stripped_derivative in_sector c p) (multiply b p) → IsInModule p in_sector c b
+IsInModule-from_derivative p in_sector c b h =
     record {
       divisible = λ i below inside.
           subst (λ k. IsDivisibleBy k (get_or (unstripped in_sector c) i [])) (zero-add i)
           (unstripped_divisible 0 in_sector c i below (subst (λ k. IsTrue (in_sector k)) (sym (zero-add i)) inside));
-      tangent = SameCoefficients-trans (combination_is 0 in_sector c p) h;
+      tangent = SameCoefficients-trans (stripped_derivative-is 0 in_sector c p) h;
     }
 
 -- and each member is a solution
-pub combination-IsInModule : (p : Polynomial) (in_sector : ℕ → Bool) (c : List Polynomial) (b : Polynomial)
-    → IsInModule p in_sector c b → SamePolynomial (combination in_sector c p) (multiply b p)
-combination-IsInModule p in_sector c b h = SameCoefficients-trans (SameCoefficients-sym (combination_is 0 in_sector c p)) h.tangent
+pub derivative-IsInModule : (p : Polynomial) (in_sector : ℕ → Bool) (c : List Polynomial) (b : Polynomial)
+    → IsInModule p in_sector c b → SamePolynomial (stripped_derivative in_sector c p) (multiply b p)
+derivative-IsInModule p in_sector c b h = SameCoefficients-trans (SameCoefficients-sym (stripped_derivative-is 0 in_sector c p)) h.tangent

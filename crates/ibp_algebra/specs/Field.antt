@@ -4,8 +4,11 @@
 --                                         a_i times the derivative of p by z_i equals b times p
 --     unstripped in_sector c              a_i is z_i c_i for i in the sector, and c_i elsewhere
 --     IsInModule p in_sector c b          the unstripped form meets both conditions
---     combination in_sector c p           the sum over i of c_i f_i, where f_i is the derivative of p by z_i,
---                                         times z_i for i in the sector
+--     stripped_derivative in_sector c p   the derivative of p along the unstripped form: the sum over i of c_i f_i,
+--                                         where f_i is the derivative of p by z_i, times z_i for i in the sector
+-- Source: Baikov's representation of Feynman integrals. The first condition is that of Gluza, Kajda and Kosower,
+-- the equation with p that of Ita and of Larsen and Zhang, and the module of both that of Böhm, Georgoudis, Larsen,
+-- Schulze and Zhang.
 use Rattle.std.specs.Prelude.{ℕ, zero, suc, ◌<◌, Bool, IsTrue, if◌then◌else◌, List, [], ◌∷◌, ◌++◌, length, slice_index_or}
 use Rattle.ibp_algebra.specs.Polynomial.{Polynomial, SamePolynomial, IsDivisibleBy, multiply, derivative, derivative_along}
 
@@ -32,11 +35,11 @@ unstripped in_sector c = unstripped_from 0 in_sector c
 abbrev pub IsInModule : Polynomial → (ℕ → Bool) → List Polynomial → Polynomial → Type 0
 IsInModule p in_sector c b = MeetsConditions p in_sector (unstripped in_sector c) b
 
-abbrev pub combination_from : ℕ → (ℕ → Bool) → List Polynomial → Polynomial → Polynomial
-combination_from i in_sector [] p = []
-combination_from i in_sector (c ∷ others) p =
+abbrev pub stripped_derivative_from : ℕ → (ℕ → Bool) → List Polynomial → Polynomial → Polynomial
+stripped_derivative_from i in_sector [] p = []
+stripped_derivative_from i in_sector (c ∷ others) p =
     multiply c (if in_sector i then multiply (variable i) (derivative i p) else derivative i p)
-    ++ combination_from (suc i) in_sector others p
+    ++ stripped_derivative_from (suc i) in_sector others p
 
-abbrev pub combination : (ℕ → Bool) → List Polynomial → Polynomial → Polynomial
-combination in_sector c p = combination_from 0 in_sector c p
+abbrev pub stripped_derivative : (ℕ → Bool) → List Polynomial → Polynomial → Polynomial
+stripped_derivative in_sector c p = stripped_derivative_from 0 in_sector c p

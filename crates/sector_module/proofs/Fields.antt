@@ -20,8 +20,8 @@ use Rattle.module_vec.proofs.Multiples.{AllKeys-map_keys}
 use Rattle.sector_module.specs.Factors.{at_component}
 use Rattle.sector_module.specs.SectorBasis.{vector_of}
 use Rattle.sector_module.proofs.Syzygies.{IsPolynomialIn, sum_of_products, factor_at, value_at, IsInRange, IsSyzygy}
-use Rattle.ibp_algebra.specs.Field.{unit_exponents, variable, IsInModule, combination_from, combination}
-use Rattle.ibp_algebra.proofs.ModuleLaws.{IsInModule-from_combination, combination-IsInModule}
+use Rattle.ibp_algebra.specs.Field.{unit_exponents, variable, IsInModule, stripped_derivative_from, stripped_derivative}
+use Rattle.ibp_algebra.proofs.ModuleLaws.{IsInModule-from_derivative, derivative-IsInModule}
 use Rattle.sector_module.specs.Factors.{factors_from}
 
 -- ---- the value of a vector
@@ -106,7 +106,7 @@ weighted_sum-multiply_scale w k f g =
 
 -- the sum of the products is the combination of the f_i, and b times -p
 products_are : (p b : Polynomial) (inside : ℕ → Bool) (i n : ℕ) (c : List Polynomial) → length c ≡ n → (w : List ℕ → ℕ)
-    → weighted_sum w (sum_of_products (c ++ b ∷ []) (factors_from p inside i n)) ≡ weighted_sum w (combination_from i inside c p) + 2147483646 * weighted_sum w (multiply b p)
+    → weighted_sum w (sum_of_products (c ++ b ∷ []) (factors_from p inside i n)) ≡ weighted_sum w (stripped_derivative_from i inside c p) + 2147483646 * weighted_sum w (multiply b p)
 products_are p b inside i zero [] e w =
     weighted_sum-append w (multiply b (scale 2147483646 p)) [] ∙ omega (arith, weighted_sum-multiply_scale w 2147483646 b p)
 products_are p b inside i zero (c ∷ others) e w = absurd (omega arith)
@@ -118,20 +118,20 @@ products_are p b inside i (suc n) (c ∷ others) e w =
       arith,
       rest,
       weighted_sum-append w (multiply c f) (sum_of_products (others ++ b ∷ []) (factors_from p inside (suc i) n)),
-      weighted_sum-append w (multiply c f) (combination_from (suc i) inside others p),
+      weighted_sum-append w (multiply c f) (stripped_derivative_from (suc i) inside others p),
     )
 
 products_zero : (p b : Polynomial) (inside : ℕ → Bool) (n : ℕ) (c : List Polynomial) → length c ≡ n
-    → SamePolynomial (combination inside c p) (multiply b p) → SamePolynomial (sum_of_products (c ++ b ∷ []) (factors_from p inside 0 n)) []
+    → SamePolynomial (stripped_derivative inside c p) (multiply b p) → SamePolynomial (sum_of_products (c ++ b ∷ []) (factors_from p inside 0 n)) []
 products_zero p b inside n c e h =
     SameCoefficients-from_weights same_exponents exponents_decide _ [] (λ w.
     let same = (weighted_sum-SameCoefficients same_exponents exponents_decide w _ _ h).same_residue in
     record { same_residue = omega (arith, same, products_are p b inside 0 n c e w) })
 
 products_equation : (p b : Polynomial) (inside : ℕ → Bool) (n : ℕ) (c : List Polynomial) → length c ≡ n
-    → SamePolynomial (sum_of_products (c ++ b ∷ []) (factors_from p inside 0 n)) [] → SamePolynomial (combination inside c p) (multiply b p)
+    → SamePolynomial (sum_of_products (c ++ b ∷ []) (factors_from p inside 0 n)) [] → SamePolynomial (stripped_derivative inside c p) (multiply b p)
 products_equation p b inside n c e h =
-    SameCoefficients-from_weights same_exponents exponents_decide (combination inside c p) (multiply b p) (λ w.
+    SameCoefficients-from_weights same_exponents exponents_decide (stripped_derivative inside c p) (multiply b p) (λ w.
     let same = (weighted_sum-SameCoefficients same_exponents exponents_decide w _ _ h).same_residue in
     record { same_residue = omega (arith, same, products_are p b inside 0 n c e w) })
 
@@ -146,8 +146,8 @@ IsInModule-syzygy variables p b inside n c e polynomials =
     let fs = factors_from p inside 0 n in
     let long : length (c ++ b ∷ []) ≡ length fs = omega (arith, length-append c (b ∷ []), length-factors p inside 0 n) in
     let whole = IsSyzygy-vector_of variables fs (c ++ b ∷ []) polynomials long in (
-      λ h. whole.1 (products_zero p b inside n c e (combination-IsInModule p inside c b h)),
-      λ s. IsInModule-from_combination p inside c b (products_equation p b inside n c e (whole.0 s)),
+      λ h. whole.1 (products_zero p b inside n c e (derivative-IsInModule p inside c b h)),
+      λ s. IsInModule-from_derivative p inside c b (products_equation p b inside n c e (whole.0 s)),
     )
 
 -- ---- the factors are polynomials in the variables of p
