@@ -10,6 +10,8 @@ pub mod Combinations
 pub mod StandardRepresentations
 pub mod ExponentLaws
 pub mod SumOfExponents
+pub mod ReverseLex
+pub mod Heights
 pub mod Divisibility
 pub mod Degrees
 pub mod PolynomialLaws

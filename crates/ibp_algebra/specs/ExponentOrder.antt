@@ -1,5 +1,6 @@
 -- The degree reverse lexicographic order is total, and equal only at equal lists.
-use Rattle.std.proofs.Common.{◌≡◌, ℕ, List, sum, reverse, T, sym, ap, subst, ◌∙◌}
+-- Source: the graded reverse lexicographic order as in Ideals, Varieties, and Algorithms of Cox, Little and O'Shea.
+use Rattle.std.proofs.Common.{◌≡◌, ℕ, List, sum, reverse, T, refl, sym, ap, subst, ◌∙◌}
 use Rattle.std.specs.Bool.{Decides}
 use Rattle.std.specs.declared.cmp.Ordering.{Ordering}
 use Rattle.std.specs.declared.cmp.Ordering.TheVariants.{Less, Equal, Greater}
@@ -16,7 +17,13 @@ exponents_decide = pointwise_decides unsigned_Decides
 pub deg_rev_lex_total : IsTotalOrder deg_rev_lex
 deg_rev_lex_total = then_total (on_total sum nat_cmp_total) (on_total reverse (back_total nat_list_cmp_total))
 
-second_equal : (r s : Ordering) → ordering_then r s ≡ Equal → s ≡ Equal
+-- two comparisons in turn find no difference only where neither does
+pub first_equal : (r s : Ordering) → ordering_then r s ≡ Equal → r ≡ Equal
+first_equal Less s e = absurd (subst (λ r. T (is_eq r)) (sym e) tt)
+first_equal Equal s e = refl
+first_equal Greater s e = absurd (subst (λ r. T (is_eq r)) (sym e) tt)
+
+pub second_equal : (r s : Ordering) → ordering_then r s ≡ Equal → s ≡ Equal
 second_equal Less s e = absurd (subst (λ r. T (is_eq r)) (sym e) tt)
 second_equal Equal s e = e
 second_equal Greater s e = absurd (subst (λ r. T (is_eq r)) (sym e) tt)

@@ -1,6 +1,7 @@
 -- Lists of exponents. A list stands for a power product: its entry at place i is the exponent of the
 -- variable at place i, and a variable past its end has the exponent zero.
-use Rattle.std.specs.Prelude.{ℕ, zero, suc, ◌+◌, ◌-◌, Bool, nat_eq, sum, reverse, replicate, length, List, [], ◌∷◌}
+-- Source: monomials and the graded reverse lexicographic order as in Ideals, Varieties, and Algorithms of Cox, Little and O'Shea.
+use Rattle.std.specs.Prelude.{ℕ, zero, suc, ◌+◌, ◌-◌, ◌*◌, ◌^◌, Bool, nat_eq, sum, reverse, replicate, length, List, [], ◌∷◌}
 use Rattle.std.specs.Cmp.Lexicographic.{pointwise, slice_cmp}
 use Rattle.std.specs.Ordering.{nat_cmp, ordering_then}
 use Rattle.std.specs.declared.cmp.Ordering.{Ordering}
@@ -43,3 +44,13 @@ product_of_powers (number ∷ numbers) (exponent ∷ m) = add_exponents (power_e
 -- each variable replaced by the one whose number the list has at its place
 abbrev pub permute_exponents : List ℕ → List ℕ → List ℕ
 permute_exponents to m = add_exponents (replicate (length m) 0) (product_of_powers to m)
+
+-- The exponents of a power product of this degree as digits, where the last variable counts most, and a
+-- greater exponent less.
+abbrev pub exponent_digits : ℕ → List ℕ → ℕ
+exponent_digits degree [] = 0
+exponent_digits degree (x ∷ xs) = (degree - x) + (degree + 1) * exponent_digits degree xs
+
+-- a whole number that is greater for the greater of two power products in as many variables
+abbrev pub monomial_height : List ℕ → ℕ
+monomial_height m = sum m * (sum m + 1) ^ length m + exponent_digits (sum m) m

@@ -2,6 +2,5 @@ pub mod Monomial
 pub mod Term
 pub mod MonomialOrder
 pub mod TermOrder
-pub mod ReverseLex
 pub mod MonomialLaws
 pub mod BlockOrders

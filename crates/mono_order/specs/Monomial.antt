@@ -1,4 +1,5 @@
 -- What the type `Monomial` keeps of its exponents: there is one for each variable, and their sum has a limit.
+-- Source: monomials as in Ideals, Varieties, and Algorithms of Cox, Little and O'Shea, here within limits.
 use Rattle.std.proofs.Common.{sym}
 use Rattle.std.specs.Prelude.{◌≡◌, ℕ, ◌≤◌, length, sum, List}
 use Rattle.mono_order.specs.declared.limits.TheConstants.{VARIABLES, MONO_DEGREE}

@@ -1,5 +1,6 @@
 -- The laws of an order of power products. Exponents have no upper bound, and there are as many as there are
 -- variables.
+-- Source: monomial orders as in Ideals, Varieties, and Algorithms of Cox, Little and O'Shea.
 use Rattle.std.specs.Prelude.{◌≡◌, ◌≢◌, ℕ, length, replicate, List}
 use Rattle.std.specs.Cmp.{IsTotalOrder}
 use Rattle.std.specs.FinMap.{IsAntisymmetric}

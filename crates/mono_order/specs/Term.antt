@@ -7,6 +7,7 @@
 --     lcm_term s t                their least common multiple, where they have one component
 --     divides s t                 the terms have one component, and the exponents of s divide those of t
 --     IsTerm variables t          the component is below 256, and there is an exponent for each variable
+-- Source: monomials of a free module as in Using Algebraic Geometry of Cox, Little and O'Shea.
 use Rattle.std.specs.Prelude.{◌≡◌, ℕ, ◌-◌, ◌<◌, Bool, true, ◌&&◌, nat_eq, nat_le, max, length, List, [], ◌∷◌}
 use Rattle.ibp_algebra.specs.Exponents.{padded_sum, add_exponents, same_exponents}
 

@@ -1,5 +1,6 @@
 -- The laws of the small plans of the test scripts.
-use Rattle.std.proofs.Common.{◌≡◌, ℕ, zero, suc, inl, inr, Bool, true, false, cond, refl, sym, ◌∙◌, ap, subst, arith, length}
+-- Source: examples of our own.
+use Rattle.std.proofs.Common.{◌≡◌, ℕ, inl, inr, ⊎_elim, Bool, true, false, T, cond, refl, sym, ◌∙◌, ap, subst, length}
 use Rattle.std.specs.Prelude.{pos, List, [], ◌∷◌, Contains, ◌==◌}
 use Rattle.std.specs.List.Sorted.{IsStrictlySortedBy}
 use Rattle.std.proofs.lemmas.Bool.{eqb-true}
@@ -8,32 +9,23 @@ use Rattle.std.proofs.lemmas.List.Kept.{IsStrictlySortedBy-filter}
 use Rattle.sector_lattice.specs.declared.integral.Integral.{Integral}
 use Rattle.sector_lattice.specs.Sectors.{sector_of, integral_cmp, Ascends, IsProperSubsector}
 use Rattle.sector_lattice.specs.Orders.{from_shared_digits}
+use Rattle.sector_lattice.proofs.Joining.{in_cases, in_head, in_tail, in_none}
 use Rattle.relay_core.specs.Family.{AreLawful}
 use Rattle.relay_core.specs.Scripts.{of_powers, all_targets, opening_of, AreTails}
 
 one_of : (x y : Integral) → Contains (x ∷ []) y → x ≡ y
-one_of x y (zero, inside, same) = same
-one_of x y (suc k, inside, same) = absurd (omega arith)
-
-none_of : (y : Integral) → Contains [] y → ⊥
-none_of y inside = omega (arith, inside.1)
-
-first_or_rest : (x : Integral) (xs : List Integral) (y : Integral) (E : Type 0) → (x ≡ y → E) → (Contains xs y → E) → Contains (x ∷ xs) y → E
-first_or_rest x xs y E first rest (zero, inside, same) = first same
-first_or_rest x xs y E first rest (suc k, inside, same) = rest (k, omega arith, same)
-
-later : (x : Integral) (xs : List Integral) (y : Integral) → Contains xs y → Contains (x ∷ xs) y
-later x xs y inside = (suc inside.0, omega (arith, inside.1), inside.2)
+one_of x y inside = ⊎_elim (λ same. same) (λ none. absurd (in_none y none)) (in_cases x [] y inside)
 
 -- what is left of a list has that many powers, and was in the list
 from_powers : (n : ℕ) (xs : List Integral) (y : Integral) → Contains (of_powers n xs) y → (length y ≡ n) × Contains xs y
-from_powers n [] y inside = absurd (none_of y inside)
+from_powers n [] y inside = absurd (in_none y inside)
 from_powers n (x ∷ xs) y inside =
     elim (length x == n) as (λ b. (length x == n) ≡ b → Contains (cond b (x ∷ of_powers n xs) (of_powers n xs)) y → (length y ≡ n) × Contains (x ∷ xs) y) [
-      | true ↦ λ passes k. first_or_rest x (of_powers n xs) y _
-          (λ same. (ap length (sym same) ∙ eqb-true (length x) n passes, (0, omega arith, same)))
-          (λ rest. ((from_powers n xs y rest).0, later x xs y (from_powers n xs y rest).1)) k
-      | false ↦ λ _ k. ((from_powers n xs y k).0, later x xs y (from_powers n xs y k).1)
+      | true ↦ λ passes k. ⊎_elim
+          (λ (same : x ≡ y). (ap length (sym same) ∙ eqb-true (length x) n passes, in_head x xs y same))
+          (λ rest. ((from_powers n xs y rest).0, in_tail x xs y (from_powers n xs y rest).1))
+          (in_cases x (of_powers n xs) y k)
+      | false ↦ λ _ k. ((from_powers n xs y k).0, in_tail x xs y (from_powers n xs y k).1)
     ] refl inside
 
 pub opened : (n : ℕ) (integral : Integral) → Contains (opening_of n).targets integral → length integral ≡ n
@@ -46,7 +38,7 @@ tail_is : (sector : ℕ) (integral : Integral) → Contains (tails_if (sector ==
 tail_is sector integral inside =
     elim (eqb_tells sector 1) [
       | inl same ↦ (same.1, one_of (pos 0 ∷ []) integral (subst (λ b. Contains (tails_if b) integral) same.0 inside))
-      | inr other ↦ absurd (none_of integral (subst (λ b. Contains (tails_if b) integral) other.0 inside))
+      | inr other ↦ absurd (in_none integral (subst (λ b. Contains (tails_if b) integral) other.0 inside))
     ]
 
 tails_ascend : (passed : Bool) → Ascends (tails_if passed)
@@ -57,7 +49,7 @@ tails_ascend false = tt
 -- the empty sector lies properly in the sector 1
 empty_in_one : IsProperSubsector (sector_of (pos 0 ∷ [])) 1
 unfolding sector_of
-empty_in_one = record { within = from_shared_digits (sector_of (pos 0 ∷ [])) 1 refl; other = λ same. let bad : ◌≡◌ {A = ℕ} 0 1 = same in omega arith }
+empty_in_one = record { within = from_shared_digits (sector_of (pos 0 ∷ [])) 1 refl; other = λ same. subst (λ (k : ℕ). T (k == 0)) same tt }
 
 pub lawful : (n : ℕ) → AreLawful (AreTails n) n
 lawful n = record {

@@ -16,7 +16,7 @@ use Rattle.ibp_algebra.proofs.Divisibility.{CountingKeys-from_all}
 use Rattle.ibp_algebra.proofs.PolynomialLaws.{SamePolynomial-multiply}
 use Rattle.ibp_algebra.proofs.ZeroDivisors.{AllKeys-append}
 use Rattle.mono_order.proofs.Terms.{add_exponents-one}
-use Rattle.mono_order.specs.ReverseLex.{sum-ones}
+use Rattle.ibp_algebra.proofs.ReverseLex.{sum-ones}
 
 -- ---- degrees
 

@@ -12,7 +12,7 @@ use Rattle.ibp_algebra.proofs.ZeroDivisors.{AllKeys-append, AllKeys-scale}
 use Rattle.mono_order.specs.Term.{same_term}
 use Rattle.mono_order.specs.TermOrder.{zero_dominates}
 use Rattle.mono_order.specs.BlockOrders.{zero_dominates_laws}
-use Rattle.mono_order.specs.ReverseLex.{sum-ones}
+use Rattle.ibp_algebra.proofs.ReverseLex.{sum-ones}
 use Rattle.mono_order.proofs.Terms.{terms_decide}
 use Rattle.module_vec.specs.ModuleVector.{ModuleVector, SameVector}
 use Rattle.module_vec.proofs.Multiples.{AllKeys-map_keys}

@@ -2,7 +2,7 @@
 use Rattle.std.specs.declared.cmp.Ordering.TheVariants.{Greater}
 use Rattle.ibp_algebra.proofs.ZeroDivisors.{AllKeys-append}
 use Rattle.ibp_algebra.proofs.Striking.{IsCanonical-strike}
-use Rattle.mono_order.specs.ReverseLex.{deg_rev_lex-add}
+use Rattle.ibp_algebra.proofs.ReverseLex.{deg_rev_lex-add}
 use Rattle.mono_order.specs.Monomial.{IsMonomial}
 use Rattle.mono_order.specs.declared.limits.TheConstants.{VARIABLES}
 use Rattle.std.specs.Prelude.{slice_get, nat_lt}
@@ -11,8 +11,6 @@ use Rattle.ibp_algebra.proofs.Degrees.{degree_of-first, products_fit}
 use Rattle.std.proofs.Common.{◌≡◌, ◌≢◌, ℕ, Bool, true, false, Option, Some, None, sum, if◌then◌else◌, append-nil, drop, length-drop, zero, suc, ◌+◌, ◌-◌, ◌*◌, ◌%◌, ◌<◌, ◌≤◌, List, [], ◌∷◌, ◌++◌, length, take, get_or, set, sym, ap, subst, ◌∙◌, refl, append_assoc, arith}
 use Rattle.std.proofs.Math.Nat.{mod-mod}
 use Rattle.std.proofs.lemmas.List.{map_more, take_all, take_more, take-append-drop}
-use Rattle.std.specs.Prelude.{Result, IfOk}
-use Rattle.std.proofs.lemmas.Result.{IfOk-weaker}
 use Rattle.ibp_field.specs.Arithmetic.{IsCongruent}
 use Rattle.ibp_algebra.specs.FormalSum.{FormalSum, scale, map_keys, strike, times_term, AllKeys, IsCanonical}
 use Rattle.ibp_algebra.proofs.SumLaws.{SameCoefficients-trans, SameCoefficients-from_eq, SameCoefficients-append, SameCoefficients-push, SameCoefficients-push_zero}
@@ -22,10 +20,6 @@ use Rattle.ibp_algebra.specs.ExponentOrder.{exponents_decide}
 
 reduced : (c d : ℕ) → c ≡ d % 2147483647 → IsCongruent c d
 reduced c d e = record { same_residue = ap (λ n. n % 2147483647) e ∙ mod-mod d 2147483647 }
-
--- at the end of a loop the whole list has been taken
-pub whole_taken : (made : Polynomial → Polynomial) (f g items : Polynomial) (i : ℕ) → length f ≤ i → f ≡ g → SamePolynomial items (made (take i f)) → SamePolynomial items (made g)
-whole_taken made f g items i h is e = subst (λ (l : Polynomial). SamePolynomial items (made l)) (take_all i f h ∙ is) e
 
 same_lists : {f g h k : Polynomial} → f ≡ h → g ≡ k → SamePolynomial h k → SamePolynomial f g
 same_lists p q e = SameCoefficients-trans (SameCoefficients-from_eq p) (SameCoefficients-trans e (SameCoefficients-from_eq (sym q)))
@@ -54,12 +48,6 @@ derived_skip place f items new i item exponent h is kept at none e =
     let zero_term : IsCongruent (get_or item.0 place 0 * item.1) 0 = record { same_residue = rw zero_exponent (omega arith) } in
     same_lists kept (derivative_more place f i item h is)
     (SameCoefficients-push_zero same_exponents exponents_decide (set item.0 place (get_or item.0 place 0 - 1)) (get_or item.0 place 0 * item.1) e zero_term)
-
--- what `from_terms` makes of a list with the coefficients that are wanted
-pub made_from : {E : Type 0} (r : Result Polynomial E) (terms items wanted : Polynomial) → terms ≡ items → SamePolynomial items wanted
-    → IfOk r (λ p. SamePolynomial p terms) → IfOk r (λ p. SamePolynomial p wanted)
-made_from r terms items wanted is e h =
-    IfOk-weaker r (λ p. SamePolynomial p terms) (λ p. SamePolynomial p wanted) (λ p q. SameCoefficients-trans q (SameCoefficients-trans (SameCoefficients-from_eq is) e)) h
 
 -- ---- sums and multiples
 
