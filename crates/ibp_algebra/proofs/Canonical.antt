@@ -10,11 +10,6 @@ use Rattle.std.specs.Bool.{Decides}
 use Rattle.ibp_algebra.specs.FormalSum.{FormalSum, weighted_sum, SameCoefficients, AllBelow, IsCanonical}
 use Rattle.ibp_algebra.proofs.Weights.{unit_weight}
 
-reversed : (r s : Ordering) → r ≡ ordering_reverse s → s ≡ ordering_reverse r
-reversed r Less e = cc
-reversed r Equal e = cc
-reversed r Greater e = cc
-
 own_reverse : (r : Ordering) → r ≡ ordering_reverse r → r ≡ Equal
 own_reverse Less e = cc
 own_reverse Equal e = refl

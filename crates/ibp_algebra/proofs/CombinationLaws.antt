@@ -1,10 +1,10 @@
 -- Combinations are linear in the weights and in the rows.
-use Rattle.std.proofs.Common.{◌≡◌, ℕ, ◌*◌, Bool, [], ◌∷◌, ◌++◌, sym, refl, ap, ◌∙◌, arith}
+use Rattle.std.proofs.Common.{◌≡◌, ℕ, ◌*◌, Bool, [], ◌∷◌, ◌++◌, sym, ap, ◌∙◌, arith}
 use Rattle.std.specs.Bool.{Decides}
 use Rattle.ibp_field.specs.Arithmetic.{IsCongruent}
 use Rattle.ibp_algebra.specs.FormalSum.{FormalSum, weighted_sum, SameCoefficients, AllKeys, scale}
 use Rattle.ibp_field.proofs.Congruence.{IsCongruent-refl, IsCongruent-mul, IsCongruent-add}
-use Rattle.ibp_algebra.proofs.Weights.{weighted_sum-append, weighted_sum-scale, weighted_sum-ext, weighted_sum-SameCoefficients, SameCoefficients-from_weights}
+use Rattle.ibp_algebra.proofs.Weights.{weighted_sum-append, weighted_sum-scale, weighted_sum-SameCoefficients, SameCoefficients-from_weights}
 use Rattle.ibp_algebra.proofs.SumLaws.{SameCoefficients-from_sums}
 use Rattle.ibp_algebra.specs.Combination.{combination}
 use Rattle.ibp_algebra.proofs.Combinations.{weighted_sum-combination}
@@ -44,15 +44,6 @@ module _ {K : Type 0} (same : K → K → Bool) (decides : (a b : K) → Decides
   pub combination-rows : {I : Type 0} (P : I → Type 0) (row other : I → FormalSum K) → ((i : I) → P i → SameCoefficients same (row i) (other i))
       → (c : FormalSum I) → AllKeys P c → SameCoefficients same (combination row c) (combination other c)
   combination-rows P row other h c p = SameCoefficients-from_weights same decides _ _ (λ w. rows_along P row other h w c p)
-
-  -- a combination of combinations
-  pub combination-combination : {I J : Type 0} (row : I → FormalSum K) (inner : J → FormalSum I) (c : FormalSum J)
-      → SameCoefficients same (combination row (combination inner c)) (combination (λ j. combination row (inner j)) c)
-  combination-combination row inner c =
-      SameCoefficients-from_sums same decides _ _ (λ w.
-      weighted_sum-combination row w (combination inner c) ∙ weighted_sum-combination inner (λ i. weighted_sum w (row i)) c
-      ∙ weighted_sum-ext _ _ (λ j. sym (weighted_sum-combination row w (inner j))) c
-      ∙ sym (weighted_sum-combination (λ j. combination row (inner j)) w c))
 
   -- the combination of the one row
   pub combination-one : {I : Type 0} (row : I → FormalSum K) (i : I) → SameCoefficients same (row i) (combination row ((i, 1) ∷ []))

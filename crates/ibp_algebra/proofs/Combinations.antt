@@ -8,7 +8,7 @@ use Rattle.ibp_algebra.specs.FormalSum.{FormalSum, weighted_sum, AllKeys, scale}
 use Rattle.ibp_algebra.specs.Combination.{combination, IsEqualBelow}
 use Rattle.ibp_field.proofs.Congruence.{IsCongruent-trans, IsCongruent-from_eq}
 use Rattle.ibp_algebra.proofs.Weights.{weighted_sum-append, weighted_sum-scale, weighted_sum-SameCoefficients, SameCoefficients-from_weights}
-use Rattle.ibp_algebra.proofs.ZeroDivisors.{AllKeys-append, AllKeys-scale}
+use Rattle.ibp_algebra.proofs.ZeroDivisors.{AllKeys-scale}
 
 pub AllKeys-weaker : {K : Type 0} (P Q : K → Type 0) → ((k : K) → P k → Q k) → (f : FormalSum K) → AllKeys P f → AllKeys Q f
 AllKeys-weaker P Q weaker [] h = tt
@@ -66,13 +66,3 @@ module _ {I K : Type 0} (order : K → K → Ordering) (same : K → K → Bool)
       (λ w.
       let h = (weighted_sum-IsEqualBelow top a b e w).same_residue in
       record { same_residue = omega (arith, h, weighted_sum-scale (λ i. weighted_sum w (value i)) 2147483646 e.summands) })
-
-  pub IsEqualBelow-trans : (top : K) (a b c : I) → IsEqualBelow order same value lead Allowed top a b → IsEqualBelow order same value lead Allowed top b c
-      → IsEqualBelow order same value lead Allowed top a c
-  IsEqualBelow-trans top a b c d e =
-      IsEqualBelow-from_weights top a c (d.summands ++ e.summands) (AllKeys-append Allowed d.summands e.summands d.allowed e.allowed)
-      (AllKeys-append (λ i. order top (lead i) ≡ Greater) d.summands e.summands d.below e.below)
-      (λ w.
-      let h = (weighted_sum-IsEqualBelow top a b d w).same_residue in
-      let k = (weighted_sum-IsEqualBelow top b c e w).same_residue in
-      record { same_residue = omega (arith, h, k, weighted_sum-append (λ i. weighted_sum w (value i)) d.summands e.summands) })

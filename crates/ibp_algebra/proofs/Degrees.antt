@@ -43,7 +43,8 @@ degree_of-le d (t ∷ f) h = omega (arith, h.0, degree_of-le d f h.1)
 pub degree_of-first : (t : List ℕ × ℕ) (f : Polynomial) → IsCanonical deg_rev_lex (t ∷ f) → degree_of (t ∷ f) ≡ sum t.0
 degree_of-first t f h = omega (arith, degree_of-le (sum t.0) f (degrees_le t.0 f h.2))
 
--- each monomial with a coefficient that is not zero has at most this degree
+-- So the definition is the textbook's, which no proof needs: each monomial with a coefficient that is not zero has at
+-- most this degree,
 pub degree_of-bounds : (f : Polynomial) (m : List ℕ) → coefficient_at f m ≢ 0 → sum m ≤ degree_of f
 degree_of-bounds f m not_zero =
     coefficient-CountingKeys same_exponents exponents_decide (λ k. sum k ≤ degree_of f) f (CountingKeys-from_all (λ k. sum k ≤ degree_of f) f (AllKeys-degree_of f)) m not_zero

@@ -297,39 +297,3 @@ module _ {K : Type 0} (order : K → K → Ordering) (total : IsTotalOrder order
             (λ v member. InSpan-trans order total unique (row_at rows) (λ i. i < length rows) b.pivot (IsKey b.leads) (λ k is. all_at (λ j. V (b.pivot j)) b.leads b.within k is) member)
             (λ v member. InSpan-trans order total unique b.pivot (IsKey b.leads) (row_at rows) (λ i. i < length rows) b.spans member) f left.rest reduced,
       )
-
-  -- and so each formal sum is a member of the span or is not
-  pub member_or_not : (rows : List (FormalSum K)) (f : FormalSum K)
-      → InSpan order (row_at rows) (λ i. i < length rows) f ⊎ (¬ (InSpan order (row_at rows) (λ i. i < length rows) f))
-  member_or_not rows f =
-      let V = InSpan order (row_at rows) (λ i. i < length rows) in
-      let space = InSpan-IsSubspace order total unique (row_at rows) (λ i. i < length rows) in
-      let found = reduced_form_exists rows f in
-      let w = found.0 in
-      ⊎_elim
-      (λ (none : SameSum order w []).
-      inl (space.alike (difference f w) f (difference_of_zero f w none) found.1.within))
-      (λ (lead : (key : K) × IsLead order w key).
-      inr (λ member.
-      let inside : V w =
-      space.alike (difference f (difference f w)) w (difference_back f w) (space.append f (scale 2147483646 (difference f w)) member (space.multiple 2147483646 (difference f w) found.1.within))
-      in
-      lead.1.occurs (found.1.reduced w lead.0 inside lead.1)))
-      (zero_or_lead order total unique w)
-    where
-      difference_of_zero : (f w : FormalSum K) → SameSum order w [] → SameSum order (difference f w) f
-      difference_of_zero f w none =
-          record { same_at = λ key. omega (arith, none.same_at key, weighted_sum-append (unit_weight same key) f (scale 2147483646 w), weighted_sum-scale (unit_weight same key) 2147483646 w) }
-
-      difference_back : (f w : FormalSum K) → SameSum order (difference f (difference f w)) w
-      difference_back f w =
-          record {
-            same_at = λ key.
-                omega (
-                  arith,
-                  weighted_sum-append (unit_weight same key) f (scale 2147483646 (difference f w)),
-                  weighted_sum-scale (unit_weight same key) 2147483646 (difference f w),
-                  weighted_sum-append (unit_weight same key) f (scale 2147483646 w),
-                  weighted_sum-scale (unit_weight same key) 2147483646 w,
-                );
-          }

@@ -99,10 +99,6 @@ module _ {K : Type 0} (same : K → K → Bool) (decides : (a b : K) → Decides
   pub SameCoefficients-joined : (g : FormalSum K) → SameCoefficients same (fold (join_last same) [] g) g
   SameCoefficients-joined g = SameCoefficients-from_weights same decides _ g (λ w. IsCongruent-trans (joined_sum w [] g) (IsCongruent-from_eq {a = 0 + weighted_sum w g} {b = weighted_sum w g} (omega arith)))
 
-  pub AllKeys-joined : (P : K → Type 0) (f g : FormalSum K) → AllKeys P f → AllKeys P g → AllKeys P (fold (join_last same) f g)
-  AllKeys-joined P f [] h k = h
-  AllKeys-joined P f (t ∷ g) h k = AllKeys-joined P (join_last same f t) g (AllKeys-join_last P f t h k.0) k.1
-
 -- ---- by the last term of a list
 
 with_term-mod : {K : Type 0} (k : K) (a : ℕ) → with_term (k, a % 2147483647) [] ≡ with_term (k, a) []

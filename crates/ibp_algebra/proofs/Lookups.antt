@@ -1,8 +1,7 @@
--- The coefficients of a canonical sum by the places of its terms, and those of a part of its terms.
-use Rattle.std.proofs.Common.{◌≡◌, ◌≢◌, ℕ, zero, suc, ◌+◌, ◌*◌, ◌%◌, ◌<◌, ◌≤◌, Bool, true, false, if◌then◌else◌, cond, [], ◌∷◌, ◌++◌, length, get_or, take, append-nil, sym, refl, ap, subst, ◌∙◌, ⊎_elim, arith}
+-- The coefficients of a canonical sum by the places of its terms.
+use Rattle.std.proofs.Common.{◌≡◌, ◌≢◌, ℕ, zero, suc, ◌*◌, ◌<◌, ◌≤◌, Bool, false, if◌then◌else◌, [], ◌∷◌, length, get_or, sym, refl, ap, ◌∙◌, ⊎_elim, arith}
 use Rattle.std.proofs.lemmas.Bool.{cases_lt}
-use Rattle.std.proofs.lemmas.List.Elements.{filter_more}
-use Rattle.std.specs.List.{filter, HoldsAt}
+use Rattle.std.specs.List.{HoldsAt}
 use Rattle.std.specs.List.Sorted.{IsNonDecreasingBy, IsPartitionPoint}
 use Rattle.std.specs.Ordering.{eq_by_cmp, is_eq, ordering_index}
 use Rattle.std.specs.declared.cmp.Ordering.{Ordering}
@@ -25,43 +24,6 @@ pub AllKeys-from_all : {K : Type 0} (P : K → Type 0) (f : FormalSum K) → ((i
 AllKeys-from_all P [] h = tt
 AllKeys-from_all P (t ∷ f) h = (h 0 t (omega arith), AllKeys-from_all P f (λ i d within. h (suc i) d (omega arith)))
 
--- the terms whose keys pass the test
-abbrev pub terms_where : {K : Type 0} → (K → Bool) → FormalSum K → FormalSum K
-terms_where test f = filter (λ t. test t.0) f
-
--- a loop's step: the next term passes the test, or does not
-pub terms_where-more_passes : {K : Type 0} (test : K → Bool) (f items : FormalSum K) (i : ℕ) (t : K × ℕ) → i < length f → t ≡ get_or f i t → test t.0 ≡ true
-    → items ≡ terms_where test (take i f) ++ t ∷ [] → items ≡ terms_where test (take (i + 1) f)
-terms_where-more_passes test f items i t within is passes e =
-    let passes' : test (get_or f i t).0 ≡ true = ap (λ u. test u.0) (sym is) ∙ passes in
-    e ∙ sym (filter_more (λ u. test u.0) f i t within ∙ rw (passes', ← is) refl)
-
-pub terms_where-more_fails : {K : Type 0} (test : K → Bool) (f items : FormalSum K) (i : ℕ) (t : K × ℕ) → i < length f → t ≡ get_or f i t → test t.0 ≡ false
-    → items ≡ terms_where test (take i f) → items ≡ terms_where test (take (i + 1) f)
-terms_where-more_fails test f items i t within is fails e =
-    let fails' : test (get_or f i t).0 ≡ false = ap (λ u. test u.0) (sym is) ∙ fails in
-    e ∙ sym (filter_more (λ u. test u.0) f i t within ∙ rw fails' (append-nil (terms_where test (take i f))))
-
-module _ {K : Type 0} where
-  kept_keys : (P : K → Type 0) (test : K → Bool) (t : K × ℕ) (f : FormalSum K) (b : Bool) → P t.0 → AllKeys P (terms_where test f)
-      → AllKeys P (cond b (t ∷ terms_where test f) (terms_where test f))
-  kept_keys P test t f true p h = (p, h)
-  kept_keys P test t f false p h = h
-
-  AllKeys-where : (P : K → Type 0) (test : K → Bool) (f : FormalSum K) → AllKeys P f → AllKeys P (terms_where test f)
-  AllKeys-where P test [] h = tt
-  AllKeys-where P test (t ∷ f) h = kept_keys P test t f (test t.0) h.0 (AllKeys-where P test f h.1)
-
-  kept_canonical : (order : K → K → Ordering) (test : K → Bool) (t : K × ℕ) (f : FormalSum K) (b : Bool) → IsCanonical order (t ∷ f) → IsCanonical order (terms_where test f)
-      → IsCanonical order (cond b (t ∷ terms_where test f) (terms_where test f))
-  kept_canonical order test t f true h k = (h.0, h.1, AllKeys-where (λ x. order t.0 x ≡ Greater) test f h.2, k)
-  kept_canonical order test t f false h k = k
-
-  -- a part of a canonical sum is canonical
-  pub IsCanonical-where : (order : K → K → Ordering) (test : K → Bool) (f : FormalSum K) → IsCanonical order f → IsCanonical order (terms_where test f)
-  IsCanonical-where order test [] h = tt
-  IsCanonical-where order test (t ∷ f) h = kept_canonical order test t f (test t.0) h (IsCanonical-where order test f h.3)
-
 module _ {K : Type 0} (order : K → K → Ordering) (total : IsTotalOrder order) (unique : IsAntisymmetric order) where
   abbrev same : K → K → Bool
   same = eq_by_cmp order
@@ -71,39 +33,6 @@ module _ {K : Type 0} (order : K → K → Ordering) (total : IsTotalOrder order
 
   at_other : (t : K × ℕ) (key : K) → same t.0 key ≡ false → t.1 * (if same t.0 key then 1 else 0) ≡ 0
   at_other t key e = rw e (omega arith)
-
-  -- a key that the test passes
-  kept_in_step : (test : K → Bool) (key : K) (t : K × ℕ) (f : FormalSum K) (b s : Bool) → test t.0 ≡ b → same t.0 key ≡ s → test key ≡ true
-      → weighted_sum (unit_weight same key) (terms_where test f) ≡ weighted_sum (unit_weight same key) f
-      → weighted_sum (unit_weight same key) (cond b (t ∷ terms_where test f) (terms_where test f)) ≡ weighted_sum (unit_weight same key) (t ∷ f)
-  kept_in_step test key t f true s e d passes h = omega (arith, h)
-  kept_in_step test key t f false false e d passes h = omega (arith, h, at_other t key d)
-  kept_in_step test key t f false true e d passes h =
-      absurd (let clash : test key ≡ false = subst (λ k. test k ≡ false) ((decides t.0 key).0 d) e in let c : ◌≡◌ {A = Bool} true false = sym passes ∙ clash in cc)
-
-  kept_in : (test : K → Bool) (key : K) (f : FormalSum K) → test key ≡ true
-      → weighted_sum (unit_weight same key) (terms_where test f) ≡ weighted_sum (unit_weight same key) f
-  kept_in test key [] passes = refl
-  kept_in test key (t ∷ f) passes = kept_in_step test key t f (test t.0) (same t.0 key) refl refl passes (kept_in test key f passes)
-
-  pub coefficient-where_passes : (test : K → Bool) (key : K) (f : FormalSum K) → test key ≡ true → coefficient_by order (terms_where test f) key ≡ coefficient_by order f key
-  coefficient-where_passes test key f passes = ap (λ n. n % 2147483647) (kept_in test key f passes)
-
-  -- a key that it does not pass
-  left_out_step : (test : K → Bool) (key : K) (t : K × ℕ) (f : FormalSum K) (b s : Bool) → test t.0 ≡ b → same t.0 key ≡ s → test key ≡ false
-      → weighted_sum (unit_weight same key) (terms_where test f) ≡ 0
-      → weighted_sum (unit_weight same key) (cond b (t ∷ terms_where test f) (terms_where test f)) ≡ 0
-  left_out_step test key t f false s e d fails h = h
-  left_out_step test key t f true false e d fails h = omega (arith, h, at_other t key d)
-  left_out_step test key t f true true e d fails h =
-      absurd (let clash : test key ≡ true = subst (λ k. test k ≡ true) ((decides t.0 key).0 d) e in let c : ◌≡◌ {A = Bool} true false = sym clash ∙ fails in cc)
-
-  left_out : (test : K → Bool) (key : K) (f : FormalSum K) → test key ≡ false → weighted_sum (unit_weight same key) (terms_where test f) ≡ 0
-  left_out test key [] fails = refl
-  left_out test key (t ∷ f) fails = left_out_step test key t f (test t.0) (same t.0 key) refl refl fails (left_out test key f fails)
-
-  pub coefficient-where_fails : (test : K → Bool) (key : K) (f : FormalSum K) → test key ≡ false → coefficient_by order (terms_where test f) key ≡ 0
-  coefficient-where_fails test key f fails = ap (λ n. n % 2147483647) (left_out test key f fails)
 
   sum_at_place : (f : FormalSum K) (i : ℕ) (d : K × ℕ) → IsCanonical order f → i < length f → weighted_sum (unit_weight same (get_or f i d).0) f ≡ (get_or f i d).1
   sum_at_place [] i d h within = absurd (omega arith)

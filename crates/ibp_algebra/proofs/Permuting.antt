@@ -1,11 +1,11 @@
 -- Variables replaced by others, one factor after the other.
-use Rattle.std.proofs.Common.{◌≡◌, ℕ, zero, suc, ◌+◌, ◌-◌, ◌<◌, ◌≤◌, List, [], ◌∷◌, sum, length, get_or, set, drop, replicate, sym, refl, ap, ◌∙◌, add-one, arith}
+use Rattle.std.proofs.Common.{◌≡◌, ℕ, zero, suc, ◌+◌, ◌-◌, ◌<◌, ◌≤◌, List, [], ◌∷◌, sum, length, get_or, set, drop, sym, ap, ◌∙◌, add-one, arith}
 use Rattle.std.proofs.Math.Seq.{drop-cons}
 use Rattle.std.proofs.lemmas.List.Sums.{sum_by-cons}
 use Rattle.std.proofs.Math.ListN.{drop_of_length-le, length-set}
 use Rattle.ibp_algebra.specs.Exponents.{add_exponents, power_exponents, product_of_powers, permute_exponents}
 use Rattle.ibp_algebra.proofs.ExponentLaws.{padded_sum-nil, padded_sum_assoc}
-use Rattle.ibp_algebra.proofs.SumOfExponents.{sum-set, get_or-le-sum}
+use Rattle.ibp_algebra.proofs.SumOfExponents.{sum-set}
 
 -- a power of one variable adds to the exponent at its place
 pub add-power : (xs : List ℕ) (place e : ℕ) → place < length xs → add_exponents xs (power_exponents place e) ≡ set xs place (get_or xs place 0 + e)
@@ -21,21 +21,6 @@ pub record Replaced (variables : ℕ) (to m xs : List ℕ) (i : ℕ) : Type 0 wh
   pub long : length xs ≡ variables
   pub few : sum xs + sum (drop i m) ≡ sum m
   pub whole : add_exponents xs (product_of_powers (drop i to) (drop i m)) ≡ permute_exponents to m
-
-sum-zeros : (n : ℕ) → sum (replicate n 0) ≡ 0
-sum-zeros zero = refl
-sum-zeros (suc n) = omega (arith, sum_by-cons (λ (y : ℕ). y) 0 (replicate n 0), sum-zeros n)
-
-length-zeros : (n : ℕ) → length {A = ℕ} (replicate n 0) ≡ n
-length-zeros zero = refl
-length-zeros (suc n) = omega (arith, length-zeros n)
-
-pub Replaced-start : (variables : ℕ) (to m : List ℕ) → length m ≡ variables → Replaced variables to m (replicate variables 0) 0
-Replaced-start variables to m p = record {
-  long = length-zeros variables;
-  few = omega (arith, sum-zeros variables);
-  whole = ap (λ n. add_exponents (replicate n 0) (product_of_powers to m)) (sym p);
-}
 
 pub Replaced-step : (variables : ℕ) (to m xs : List ℕ) (i : ℕ) → i < length to → i < length m → get_or to i 0 - 1 < variables → Replaced variables to m xs i
     → Replaced variables to m (set xs (get_or to i 0 - 1) (get_or xs (get_or to i 0 - 1) 0 + get_or m i 0)) (i + 1)
@@ -56,11 +41,6 @@ Replaced-step variables to m xs i p q within h =
           ∙ ap (add_exponents xs) (sym step)
           ∙ h.whole;
     }
-
--- each exponent stays within the degree
-pub Replaced-fits : (variables : ℕ) (to m xs : List ℕ) (i place : ℕ) → i < length m → Replaced variables to m xs i → get_or xs place 0 + get_or m i 0 ≤ sum m
-Replaced-fits variables to m xs i place q h =
-    omega (arith, h.few, get_or-le-sum xs place, ap sum (drop_at m i q), sum_by-cons (λ (y : ℕ). y) (get_or m i 0) (drop (i + 1) m))
 
 pub Replaced-end : (variables : ℕ) (to m xs : List ℕ) (i : ℕ) → length to ≤ i → length m ≤ i → Replaced variables to m xs i → (xs ≡ permute_exponents to m) × (sum xs ≡ sum m)
 Replaced-end variables to m xs i p q h =

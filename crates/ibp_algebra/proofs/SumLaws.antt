@@ -1,11 +1,10 @@
 -- The laws of formal sums: sums, multiples and products keep `SameCoefficients`, and products over a
 -- commutative monoid of keys are commutative, associative and distributive.
-use Rattle.std.proofs.Common.{◌≡◌, ℕ, ◌+◌, ◌*◌, ◌%◌, ◌<◌, if◌then◌else◌, length, take, get_or, Bool, [], ◌∷◌, ◌++◌, append_assoc, append-nil, sym, refl, ap, ◌∙◌, arith}
+use Rattle.std.proofs.Common.{◌≡◌, ℕ, ◌+◌, ◌*◌, ◌%◌, if◌then◌else◌, Bool, [], ◌∷◌, ◌++◌, sym, refl, ap, ◌∙◌, arith}
 use Rattle.std.specs.Bool.{Decides}
-use Rattle.std.proofs.lemmas.List.{take_more}
 use Rattle.std.proofs.lemmas.Nat.{mul-mod_second}
 use Rattle.ibp_field.specs.Arithmetic.{add_mod, mul_mod, IsCongruent}
-use Rattle.ibp_algebra.specs.FormalSum.{FormalSum, weighted_sum, coefficient, SameCoefficients, scale, map_keys, times_term, product}
+use Rattle.ibp_algebra.specs.FormalSum.{FormalSum, weighted_sum, coefficient, SameCoefficients, scale, map_keys, product}
 use Rattle.ibp_field.proofs.Congruence.{IsCongruent-refl, IsCongruent-sym, IsCongruent-trans, IsCongruent-mul, IsCongruent-add, IsCongruent-from_eq}
 use Rattle.ibp_algebra.proofs.Weights.{unit_weight, weighted_sum-append, weighted_sum-scale, weighted_sum-ext, weighted_sum-weights, weighted_sum-product, weighted_sum-swap, weighted_sum-map_keys, weighted_sum-SameCoefficients, SameCoefficients-from_weights}
 
@@ -120,17 +119,6 @@ module _ {K : Type 0} (same : K → K → Bool) (decides : (a b : K) → Decides
       (IsCongruent-trans (IsCongruent-from_eq {a = weighted_sum w g} {b = weighted_sum w g + (0 * w k + 0)} (omega arith))
       (IsCongruent-add (IsCongruent-refl (weighted_sum w g)) (IsCongruent-add (IsCongruent-mul (IsCongruent-sym e) (IsCongruent-refl (w k))) (IsCongruent-refl 0))))))
 
--- the product of a list that is one term longer
-products-append : {K : Type 0} (times : K → K → K) (f g h : FormalSum K) → product times (f ++ g) h ≡ product times f h ++ product times g h
-products-append times [] g h = refl
-products-append times (t ∷ f) g h = ap (λ p. times_term times t h ++ p) (products-append times f g h) ∙ sym (append_assoc (times_term times t h) (product times f h) (product times g h))
-
-pub product_more : {K : Type 0} (times : K → K → K) (f g : FormalSum K) (i : ℕ) (d : K × ℕ) → i < length f
-    → product times (take (i + 1) f) g ≡ product times (take i f) g ++ times_term times (get_or f i d) g
-product_more times f g i d h =
-    ap (λ l. product times l g) (take_more f i d h) ∙ products-append times (take i f) (get_or f i d ∷ []) g
-    ∙ ap (λ l. product times (take i f) g ++ l) (append-nil _)
-
 -- whichever test decides whether keys are equal
 pub SameCoefficients-retest : {K : Type 0} (same other : K → K → Bool) → ((a b : K) → Decides (same a b) (a ≡ b)) → ((a b : K) → Decides (other a b) (a ≡ b))
     → {f g : FormalSum K} → SameCoefficients same f g → SameCoefficients other f g
@@ -148,7 +136,7 @@ pub coefficient-scale : {K : Type 0} (same : K → K → Bool) (c : ℕ) (f : Fo
 coefficient-scale same c f key =
     ap (λ n. n % 2147483647) (weighted_sum-scale (unit_weight same key) c f) ∙ sym (mul-mod_second c (weighted_sum (unit_weight same key) f) 2147483647)
 
--- the convolution: the sum of a's coefficient times b's over the keys a and b whose product is the key
+-- The definition is the textbook's, which no proof needs. The convolution: the sum of a's coefficient times b's over the keys a and b whose product is the key
 pub coefficient-product : {K : Type 0} (same : K → K → Bool) (times : K → K → K) (f g : FormalSum K) (key : K)
     → coefficient same (product times f g) key ≡ weighted_sum (λ a. weighted_sum (λ b. if same (times a b) key then 1 else 0) g) f % 2147483647
 coefficient-product same times f g key = ap (λ n. n % 2147483647) (weighted_sum-product times (unit_weight same key) f g)

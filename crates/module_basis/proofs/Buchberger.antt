@@ -1,18 +1,17 @@
 -- Buchberger's theorem for modules: where all pairs of a list have standard representations, the lead of each
 -- vector of the submodule that it generates, of whatever degree, is divisible by a lead of the list.
-use Rattle.std.proofs.Common.{◌≡◌, ◌≢◌, ℕ, Bool, true, length, List, [], sym, refl, ap, subst, ◌∙◌}
+use Rattle.std.proofs.Common.{◌≡◌, ◌≢◌, ℕ, Bool, true, length, List, [], sym, refl, ap, ◌∙◌}
 use Rattle.std.specs.List.{All, Contains}
 use Rattle.std.proofs.lemmas.List.Elements.{All-contains, All-contains_itself, All-weaker}
 use Rattle.std.specs.declared.cmp.Ordering.{Ordering}
 use Rattle.std.specs.declared.cmp.Ordering.TheVariants.{Greater}
 use Rattle.ibp_algebra.specs.FormalSum.{coefficient, IsCanonical}
 use Rattle.ibp_algebra.specs.Combination.{IsEqualBelow}
-use Rattle.ibp_algebra.proofs.Combinations.{IsEqualBelow-trans}
 use Rattle.ibp_algebra.proofs.StandardRepresentations.{lead_of_combination}
 use Rattle.ibp_algebra.specs.Exponents.{add_exponents}
 use Rattle.mono_order.specs.Term.{Term, same_term, multiply_term, quotient_exponents, lcm_term, divides, divides_exponents, IsTerm}
 use Rattle.mono_order.specs.TermOrder.{IsTermOrder}
-use Rattle.mono_order.proofs.Terms.{terms_decide, IsTerm-multiply, divides-multiple, divides-quotient, divides-lcm_first, divides-lcm_second, divides-times, lcm-divides, divides-lcm_left, divides-lcm_right, length-quotient, quotient-times, quotient_through, IsTerm-lcm}
+use Rattle.mono_order.proofs.Terms.{terms_decide, IsTerm-multiply, divides-multiple, divides-times, lcm-divides, divides-lcm_left, divides-lcm_right, length-quotient, quotient-times, quotient_through, IsTerm-lcm}
 use Rattle.mono_order.proofs.TermInduction.{term_induction}
 use Rattle.module_vec.specs.ModuleVector.{ModuleVector, lead, IsMonicVector, Multiple, multiple_value, multiple_lead, IsMultipleOf, IsMember, HasDivisor}
 use Rattle.module_vec.specs.Division.{multiple_with_lead}
@@ -45,9 +44,6 @@ module _ {variables : ℕ} {order : Term → Term → Ordering} {high : ℕ → 
   lead_term k h =
       let g = monic_in k.1 h.generator in
       IsTerm-multiply variables k.0 (lead k.1) h.exponents (IsTerm-lead laws k.1 g.monic g.terms)
-
-  vector_lead : (g : ModuleVector) → Contains list g → IsTerm variables (lead g)
-  vector_lead g h = let is_monic = monic_in g h in IsTerm-lead laws g is_monic.monic is_monic.terms
 
   -- Where a pair has a standard representation, any two multiples of its vectors with one lead differ by lesser
   -- multiples: they are a common multiple of the two that meet at the least common multiple.
@@ -90,35 +86,6 @@ module _ {variables : ℕ} {order : Term → Term → Ordering} {high : ℕ → 
   replaced : AllPairsReduce order variables list → (a b : Multiple) → IsMultipleOf variables list a → IsMultipleOf variables list b → multiple_lead a ≡ multiple_lead b
       → IsEqualBelow order same_term multiple_value multiple_lead (IsMultipleOf variables list) (multiple_lead a) a b
   replaced pairs a b h k e = standard_at a b h k e (pairs.reduces a.1 b.1 h.generator k.generator (ap (λ (u : Term). u.0) e))
-
-  -- The chain criterion: where the lead of h divides the least common multiple of the leads of g and k, the
-  -- pair of g and k follows from those of g and h, and of h and k.
-  pub chain_criterion : (g h k : ModuleVector) → Contains list g → Contains list h → Contains list k → (lead g).0 ≡ (lead k).0
-      → divides (lead h) (lcm_term (lead g) (lead k)) ≡ true → HasStandardRepresentation order variables list g h → HasStandardRepresentation order variables list h k
-      → HasStandardRepresentation order variables list g k
-  chain_criterion g h k in_g in_h in_k component through first second =
-      let first_lead = vector_lead g in_g in
-      let middle_lead = vector_lead h in_h in
-      let last_lead = vector_lead k in_k in
-      let lcm = lcm_term (lead g) (lead k) in
-      let valid = IsTerm-lcm variables (lead g) (lead k) first_lead last_lead in
-      let same_length : length (lead g).1 ≡ length (lead k).1 = first_lead.exponents ∙ sym last_lead.exponents in
-      let divides_g : divides (lead g) lcm ≡ true = divides-lcm_first (lead g) (lead k) same_length in
-      let divides_k : divides (lead k) lcm ≡ true = divides-lcm_second (lead g) (lead k) same_length component in
-      let a = multiple_with_lead lcm g in
-      let b = multiple_with_lead lcm h in
-      let c = multiple_with_lead lcm k in
-      let a_lead : multiple_lead a ≡ lcm = divides-quotient variables (lead g) lcm first_lead.exponents valid.exponents divides_g in
-      let b_lead : multiple_lead b ≡ lcm = divides-quotient variables (lead h) lcm middle_lead.exponents valid.exponents through in
-      let c_lead : multiple_lead c ≡ lcm = divides-quotient variables (lead k) lcm last_lead.exponents valid.exponents divides_k in
-      let a_is : IsMultipleOf variables list a = record { exponents = length-quotient variables (lead g).1 lcm.1 first_lead.exponents valid.exponents; generator = in_g } in
-      let b_is : IsMultipleOf variables list b = record { exponents = length-quotient variables (lead h).1 lcm.1 middle_lead.exponents valid.exponents; generator = in_h } in
-      let c_is : IsMultipleOf variables list c = record { exponents = length-quotient variables (lead k).1 lcm.1 last_lead.exponents valid.exponents; generator = in_k } in
-      let left = standard_at a b a_is b_is (a_lead ∙ sym b_lead) first in
-      let right = standard_at b c b_is c_is (b_lead ∙ sym c_lead) second in
-      IsEqualBelow-trans order same_term terms_decide multiple_value multiple_lead (IsMultipleOf variables list) lcm a b c
-      (subst (λ t. IsEqualBelow order same_term multiple_value multiple_lead (IsMultipleOf variables list) t a b) a_lead left)
-      (subst (λ t. IsEqualBelow order same_term multiple_value multiple_lead (IsMultipleOf variables list) t b c) b_lead right)
 
   buchberger_divisible : AllPairsReduce order variables list → (v : ModuleVector) → IsCanonical order v → v ≢ [] → IsMember variables list v → HasDivisor list (lead v)
   buchberger_divisible pairs v canonical not_zero member =

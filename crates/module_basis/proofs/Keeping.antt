@@ -1,12 +1,10 @@
 -- From a basis to the reduced one, step by step: the vectors with low leads are put in descending order, and those
 -- stay whose leads no lead of a later one divides.
-use Rattle.std.proofs.Common.{◌≡◌, ◌≢◌, ℕ, suc, ◌+◌, ◌<◌, ◌≤◌, Bool, true, false, if◌then◌else◌, Option, Some, None, inl, inr, ⊎_elim, sum, length, get_or, take, drop, List, [], ◌∷◌, ◌++◌, sym, refl, ap, subst, ◌∙◌, add-one, append_assoc, append-nil, arith}
+use Rattle.std.proofs.Common.{◌≡◌, ℕ, suc, ◌+◌, ◌<◌, ◌≤◌, Bool, true, false, if◌then◌else◌, Option, Some, None, inl, inr, ⊎_elim, sum, length, get_or, take, drop, List, [], ◌∷◌, ◌++◌, sym, refl, ap, subst, ◌∙◌, append_assoc, arith}
 use Rattle.std.specs.List.{All, AllByRecursion, Contains}
 use Rattle.std.specs.Ordering.{is_lt}
 use Rattle.std.specs.declared.cmp.Ordering.{Ordering}
 use Rattle.std.specs.declared.cmp.Ordering.TheVariants.{Less, Equal, Greater}
-use Rattle.std.proofs.Math.Seq.{drop-cons}
-use Rattle.std.proofs.Math.ListN.{drop_of_length-le}
 use Rattle.std.proofs.lemmas.Bool.{cases_lt}
 use Rattle.std.proofs.lemmas.List.{get_or_default}
 use Rattle.std.proofs.lemmas.List.Elements.{All-contains, All-contains_itself, All-weaker, All-from_recursion, Contains-append_right}
@@ -19,43 +17,13 @@ use Rattle.module_vec.specs.Division.{Remainder, DividesTo, first_divisor}
 use Rattle.module_basis.specs.GroebnerBasis.{IsTailReduced}
 use Rattle.module_basis.specs.Reducing.{descending_place, insert_descending, Descends, IsSortedLow, IsKept}
 use Rattle.module_basis.proofs.ReducedBases.{Contains-low, from_low_elements, low_from_lead, reduced_monic, IsTailReduced-divided}
-use Rattle.module_basis.proofs.ReducedBasisExists.{Every-insert, Contains-insert, Descends-insert, length-insert, kept_dropped, kept_added}
-
-drop_at : {X : Type 0} (list : List X) (i : ℕ) (x : X) → i < length list → x ≡ get_or list i x → drop i list ≡ x ∷ drop (i + 1) list
-drop_at list i x within is = drop-cons list i x within ∙ (λ j. sym is j ∷ drop (sym (add-one i) j) list)
+use Rattle.module_basis.proofs.Reducing.{Every-insert, Contains-insert, Descends-insert, length-insert, kept_dropped, kept_added}
 
 -- ---- the place of a term in a descending list
 
 pub record IsPlaced (order : Term → Term → Ordering) (t : Term) (list : List ModuleVector) (i : ℕ) : Type 0 where
   pub within : i ≤ length list
   pub rest : descending_place order t (drop i list) + i ≡ descending_place order t list
-
-pub IsPlaced-start : (order : Term → Term → Ordering) (t : Term) (list : List ModuleVector) → IsPlaced order t list 0
-IsPlaced-start order t list = record { within = omega arith; rest = omega arith }
-
-place_here : (r : Ordering) (n : ℕ) → r ≢ Less → (if is_lt r then suc n else 0) ≡ 0
-place_here Less n h = absurd (h refl)
-place_here Equal n h = refl
-place_here Greater n h = refl
-
-pub IsPlaced-here : (order : Term → Term → Ordering) (t : Term) (list : List ModuleVector) (i : ℕ) (g : ModuleVector) → i < length list → g ≡ get_or list i g → order t (lead g) ≢ Less
-    → IsPlaced order t list i → i ≡ descending_place order t list
-IsPlaced-here order t list i g within is above h =
-    let at : descending_place order t (drop i list) ≡ 0 = ap (descending_place order t) (drop_at list i g within is) ∙ place_here (order t (lead g)) (descending_place order t (drop (i + 1) list)) above in
-    omega (arith, at, h.rest)
-
-pub IsPlaced-more : (order : Term → Term → Ordering) (t : Term) (list : List ModuleVector) (i : ℕ) (g : ModuleVector) → i < length list → g ≡ get_or list i g → order t (lead g) ≡ Less
-    → IsPlaced order t list i → IsPlaced order t list (i + 1)
-IsPlaced-more order t list i g within is below h =
-    let at : descending_place order t (drop i list) ≡ suc (descending_place order t (drop (i + 1) list)) =
-    ap (descending_place order t) (drop_at list i g within is) ∙ ap (λ r. if is_lt r then suc (descending_place order t (drop (i + 1) list)) else 0) below
-    in
-    record { within = omega (arith, within); rest = omega (arith, at, h.rest) }
-
-pub IsPlaced-end : (order : Term → Term → Ordering) (t : Term) (list : List ModuleVector) (i : ℕ) → length list ≤ i → IsPlaced order t list i → length list ≡ descending_place order t list
-IsPlaced-end order t list i end h =
-    let at : descending_place order t (drop i list) ≡ 0 = ap (descending_place order t) (drop_of_length-le list end) in
-    omega (arith, at, h.rest, h.within)
 
 -- ---- a vector put at its place
 
@@ -79,9 +47,6 @@ pub record IsSorting (order : Term → Term → Ordering) (high : ℕ → Bool) 
   pub within : AllByRecursion (λ x. Contains elements x × (high (lead x).0 ≡ false)) sorted
   pub all : (k : ℕ) (d : ModuleVector) → k < i → high (lead (get_or elements k d)).0 ≡ false → Contains sorted (get_or elements k d)
   pub short : length sorted ≤ i
-
-pub IsSorting-start : (order : Term → Term → Ordering) (high : ℕ → Bool) (elements : List ModuleVector) → IsSorting order high elements 0 []
-IsSorting-start order high elements = record { descends = tt; within = tt; all = λ k d below low. absurd (omega (arith, below)); short = omega arith }
 
 not_both : (b : Bool) → b ≡ true → b ≡ false → ⊥
 not_both b e f = cc
@@ -140,18 +105,6 @@ module _ {variables : ℕ} {order : Term → Term → Ordering} {high : ℕ → 
     pub parts : whole ≡ sorted ++ done
     pub stays : IsKept order done kept
 
-  pub IsKeeping-start : (whole : List ModuleVector) → IsKeeping whole whole []
-  IsKeeping-start whole = record { done = []; parts = sym (append-nil whole); stays = none }
-    where
-      none : IsKept order [] []
-      none = record {
-        within = λ x c. c;
-        divided = λ x c. absurd (omega (arith, c.1));
-        ascends = λ i below j less. absurd (omega (arith, below));
-        is_minimal = λ i j first second apart. absurd (omega (arith, first));
-        short = omega arith;
-      }
-
   Descends-later : (front back : List ModuleVector) → Descends order (front ++ back) → Descends order back
   Descends-later [] back h = h
   Descends-later (x ∷ front) back h = Descends-later front back h.1
@@ -176,9 +129,6 @@ module _ {variables : ℕ} {order : Term → Term → Ordering} {high : ℕ → 
             (λ x c. All-contains (IsMonicVector order variables) whole x monic (subst (λ (l : List ModuleVector). Contains l x) (sym parts) (Contains-append_right rest (g ∷ k.done) x c)))
             down.0 none;
       }
-
-  pub IsKeeping-end : (whole sorted kept : List ModuleVector) → sorted ≡ [] → IsKeeping whole sorted kept → IsKept order whole kept
-  IsKeeping-end whole sorted kept none k = subst (λ (l : List ModuleVector). IsKept order l kept) (sym (k.parts ∙ ap (λ (l : List ModuleVector). l ++ k.done) none)) k.stays
 
   -- a vector that is taken off is one of the list, and so are those that stay
   pub IsKeeping-monic : (whole sorted rest : List ModuleVector) (g : ModuleVector) (kept : List ModuleVector) → All (IsMonicVector order variables) whole → sorted ≡ rest ++ g ∷ []

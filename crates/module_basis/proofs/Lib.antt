@@ -5,7 +5,7 @@ pub mod ReducedBases
 pub mod UniqueBasis
 pub mod RunEnds
 pub mod OrderChange
-pub mod ReducedBasisExists
+pub mod Reducing
 pub mod RunCounts
 pub mod WorkedRows
 pub mod RunSteps

@@ -1,17 +1,15 @@
 -- Pairs that are put into a queue one by one, and generators that are added one by one.
-use Rattle.std.proofs.Common.{◌≡◌, ℕ, ◌+◌, ◌<◌, ◌≤◌, Some, None, ⊎_elim, length, get_or, drop, List, [], ◌∷◌, sym, refl, ap, subst, ◌∙◌, add-one, arith}
-use Rattle.std.specs.List.{All, Contains}
+use Rattle.std.proofs.Common.{◌≡◌, ℕ, ◌+◌, ◌<◌, ◌≤◌, Some, ⊎_elim, length, get_or, drop, List, ◌∷◌, sym, ap, subst, ◌∙◌, add-one, arith}
 use Rattle.std.specs.declared.cmp.Ordering.{Ordering}
 use Rattle.std.proofs.Math.Seq.{drop-cons}
-use Rattle.std.proofs.Math.ListN.{drop_of_length-le}
 use Rattle.std.proofs.lemmas.Bool.{cases_lt}
 use Rattle.std.proofs.lemmas.List.{get_or_default}
 use Rattle.mono_order.specs.Term.{Term}
 use Rattle.pair_queue.specs.declared.queue.Pair.{Pair}
-use Rattle.pair_queue.specs.Pairs.{insert_pair, insert_pairs}
+use Rattle.pair_queue.specs.Pairs.{insert_pairs}
 use Rattle.module_vec.specs.ModuleVector.{ModuleVector, IsVector}
 use Rattle.module_vec.specs.Division.{monic_of}
-use Rattle.module_basis.specs.PlainRun.{RunState, run_state, AreNewPairs, with_element, with_generators, opening}
+use Rattle.module_basis.specs.PlainRun.{RunState, AreNewPairs, with_element, with_generators, opening}
 use Rattle.module_basis.proofs.RunCounts.{with_element-counts}
 
 drop_at : {X : Type 0} (list : List X) (i : ℕ) (x : X) → i < length list → x ≡ get_or list i x → drop i list ≡ x ∷ drop (i + 1) list
@@ -22,42 +20,11 @@ pub record IsPushed (order : Term → Term → Ordering) (pairs start : List Pai
   pub new : AreNewPairs order (drop i pairs) queue
   pub same : insert_pairs order (drop i pairs) queue ≡ insert_pairs order pairs start
 
-pub IsPushed-start : (order : Term → Term → Ordering) (pairs start : List Pair) → AreNewPairs order pairs start → IsPushed order pairs start 0 start
-IsPushed-start order pairs start new = record { new = new; same = refl }
-
-next_new : (order : Term → Term → Ordering) (pairs start : List Pair) (i : ℕ) (queue : List Pair) (pair : Pair) → i < length pairs → pair ≡ get_or pairs i pair → IsPushed order pairs start i queue
-    → AreNewPairs order (pair ∷ drop (i + 1) pairs) queue
-next_new order pairs start i queue pair within is h = subst (λ (l : List Pair). AreNewPairs order l queue) (drop_at pairs i pair within is) h.new
-
-pub IsPushed-new : (order : Term → Term → Ordering) (pairs start : List Pair) (i : ℕ) (queue : List Pair) (pair : Pair) → i < length pairs → pair ≡ get_or pairs i pair
-    → IsPushed order pairs start i queue → ¬ (Contains queue pair)
-IsPushed-new order pairs start i queue pair within is h = (next_new order pairs start i queue pair within is h).0
-
-pub IsPushed-more : (order : Term → Term → Ordering) (pairs start : List Pair) (i : ℕ) (queue : List Pair) (pair : Pair) → i < length pairs → pair ≡ get_or pairs i pair
-    → IsPushed order pairs start i queue → IsPushed order pairs start (i + 1) (insert_pair order pair queue)
-IsPushed-more order pairs start i queue pair within is h =
-    record {
-      new = (next_new order pairs start i queue pair within is h).1;
-      same = ap (λ (l : List Pair). insert_pairs order l queue) (sym (drop_at pairs i pair within is)) ∙ h.same;
-    }
-
-pub IsPushed-end : (order : Term → Term → Ordering) (pairs start : List Pair) (i : ℕ) (queue : List Pair) → length pairs ≤ i → IsPushed order pairs start i queue → queue ≡ insert_pairs order pairs start
-IsPushed-end order pairs start i queue end h = ap (λ (l : List Pair). insert_pairs order l queue) (sym (drop_of_length-le pairs end)) ∙ h.same
-
 -- the generators in front are added
 pub record IsOpened (order : Term → Term → Ordering) (limit variables : ℕ) (generators : List ModuleVector) (i : ℕ) (state : RunState) : Type 0 where
   pub rest : with_generators order limit (Some state) (drop i generators) ≡ opening order limit generators
   pub long : length state.elements ≡ i
   pub vectors : (k : ℕ) (d : ModuleVector) → k < i → IsVector order variables (get_or generators k d)
-
-pub IsOpened-start : (order : Term → Term → Ordering) (limit variables : ℕ) (generators : List ModuleVector) → IsOpened order limit variables generators 0 (run_state [] [] 0)
-IsOpened-start order limit variables generators = record { rest = refl; long = refl; vectors = λ k d below. absurd (omega (arith, below)) }
-
-pub IsOpened-over : (order : Term → Term → Ordering) (limit variables : ℕ) (generators : List ModuleVector) (i : ℕ) (state : RunState) (g : ModuleVector) → i < length generators → g ≡ get_or generators i g
-    → with_element order limit state (monic_of order g) ≡ None → IsOpened order limit variables generators i state → opening order limit generators ≡ None
-IsOpened-over order limit variables generators i state g within is over h =
-    sym h.rest ∙ (ap (λ (l : List ModuleVector). with_generators order limit (Some state) l) (drop_at generators i g within is)
-    ∙ ap (λ s. with_generators order limit s (drop (i + 1) generators)) over)
 
 grown : (order : Term → Term → Ordering) (limit : ℕ) (state : RunState) (v : ModuleVector) (next : RunState) → with_element order limit state v ≡ Some next → length next.elements ≡ length state.elements + 1
 grown order limit state v next e = (with_element-counts order limit state v next e).0
@@ -78,11 +45,3 @@ IsOpened-more order limit variables generators i state next g within is vector a
           subst (IsVector order variables) (is ∙ (get_or_default generators i g d within ∙ ap (λ n. get_or generators n d) (sym same))) vector)
           (cases_lt k i);
     }
-
-pub IsOpened-end : (order : Term → Term → Ordering) (limit variables : ℕ) (generators : List ModuleVector) (i : ℕ) (state : RunState) → length generators ≤ i → IsOpened order limit variables generators i state
-    → opening order limit generators ≡ Some state
-IsOpened-end order limit variables generators i state end h = sym h.rest ∙ ap (λ (l : List ModuleVector). with_generators order limit (Some state) l) (drop_of_length-le generators end)
-
-pub IsOpened-vectors : (order : Term → Term → Ordering) (limit variables : ℕ) (generators : List ModuleVector) (i : ℕ) (state : RunState) → length generators ≤ i → IsOpened order limit variables generators i state
-    → All (IsVector order variables) generators
-IsOpened-vectors order limit variables generators i state end h = λ k d below. h.vectors k d (omega (arith, below, end))

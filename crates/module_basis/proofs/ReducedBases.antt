@@ -56,9 +56,6 @@ IsSubmodule-IsLowMember variables high Member submodule =
       );
     }
 
-not_both : (b : Bool) → b ≡ true → b ≡ false → ⊥
-not_both b e f = cc
-
 Contains-cons : {X : Type 0} (x : X) (list : List X) (g : X) → Contains list g → Contains (x ∷ list) g
 Contains-cons x list g h = (suc h.0, omega (arith, h.1), h.2)
 

@@ -277,10 +277,6 @@ added_settling order variables pair others generators added elements v s is_moni
 
 -- ---- a pair is taken
 
-over_or : {X : Type 0} (b : Bool) (x y : Option X) → (if b then x else y) ≡ y ⊎ (if b then x else y) ≡ x
-over_or true x y = inr refl
-over_or false x y = inl refl
-
 -- what `with_element` gives, where it gives a state
 pub with_element_some : (order : Term → Term → Ordering) (limit : ℕ) (state : RunState) (v : ModuleVector) (next : RunState) → with_element order limit state v ≡ Some next
     → (next.elements ≡ state.elements ++ v ∷ []) × (next.pairs ≡ insert_pairs order (formed_pairs state.elements v) state.pairs)
@@ -574,14 +570,6 @@ module _ {variables : ℕ} {order : Term → Term → Ordering} {high : ℕ → 
   pub run_monic : (generators : List ModuleVector) → All (IsVector order variables) generators → All (λ g. g ≢ []) generators
       → (limit budget : ℕ) (list : List ModuleVector) (taken : ℕ) → RunsTo order limit generators budget (Done list taken) → All (IsMonicVector order variables) list
   run_monic generators vectors not_zero limit budget list taken run = (run_is_done generators vectors not_zero limit budget list taken run).monic
-
-  pub run_members : (generators : List ModuleVector) → All (IsVector order variables) generators → All (λ g. g ≢ []) generators
-      → (limit budget : ℕ) (list : List ModuleVector) (taken : ℕ) → RunsTo order limit generators budget (Done list taken) → All (IsMember variables generators) list
-  run_members generators vectors not_zero limit budget list taken run = (run_is_done generators vectors not_zero limit budget list taken run).members
-
-  pub run_generates : (generators : List ModuleVector) → All (IsVector order variables) generators → All (λ g. g ≢ []) generators
-      → (limit budget : ℕ) (list : List ModuleVector) (taken : ℕ) → RunsTo order limit generators budget (Done list taken) → All (IsMember variables list) generators
-  run_generates generators vectors not_zero limit budget list taken run = (run_is_done generators vectors not_zero limit budget list taken run).generated
 
   -- The list of a done run is a Groebner basis of the module that the generators generate.
   pub run_groebner : (generators : List ModuleVector) → All (IsVector order variables) generators → All (λ g. g ≢ []) generators

@@ -1,19 +1,14 @@
 -- The steps of a run, for a loop over its state.
-use Rattle.std.proofs.Common.{◌≡◌, ◌≢◌, ℕ, suc, ◌+◌, ◌-◌, ◌≤◌, true, false, Some, None, length, List, [], ◌∷◌, refl, ap, subst, ◌∙◌, arith}
+use Rattle.std.proofs.Common.{◌≡◌, ◌≢◌, ℕ, suc, ◌+◌, ◌-◌, ◌≤◌, Some, length, List, [], ◌∷◌, refl, ap, subst, ◌∙◌, arith}
 use Rattle.std.specs.declared.cmp.Ordering.{Ordering}
 use Rattle.mono_order.specs.Term.{Term}
 use Rattle.module_vec.specs.ModuleVector.{ModuleVector}
-use Rattle.module_vec.specs.Division.{Division, Remainder, DividesTo, monic_of, s_vector}
 use Rattle.pair_queue.specs.declared.queue.Pair.{Pair}
-use Rattle.module_basis.specs.PlainRun.{RunState, RunEnd, Done, PairsSpent, DegreeOver, Step, Next, Over, step_to, with_element, with_remainder, element, is_pair_over, take_pair, without_pair, TakesFirst, after_step, run_pairs, run_from, opening, RunsFrom, RunsTo}
+use Rattle.module_basis.specs.PlainRun.{RunState, RunEnd, Done, PairsSpent, DegreeOver, Next, Over, without_pair, TakesFirst, after_step, run_pairs, run_from, opening, RunsFrom, RunsTo}
 use Rattle.module_basis.proofs.RunEnds.{take_pair-more, run_pairs-more}
 use Rattle.module_basis.proofs.RunCounts.{take_pair-counts, opening-counts}
 
 module _ (order : Term → Term → Ordering) (limit : ℕ) where
-  -- the opening
-  pub RunsTo-over : (generators : List ModuleVector) (budget : ℕ) → opening order limit generators ≡ None → RunsTo order limit generators budget DegreeOver
-  RunsTo-over generators budget e = record { steps = 0; ends = ap (run_from order limit 0 budget) e }
-
   pub RunsTo-opened : (generators : List ModuleVector) (budget : ℕ) (state : RunState) → opening order limit generators ≡ Some state → (end : RunEnd)
       → RunsFrom order limit budget state end → RunsTo order limit generators budget end
   RunsTo-opened generators budget state e end h = record { steps = h.steps; ends = ap (run_from order limit h.steps budget) e ∙ h.ends }
@@ -26,29 +21,7 @@ module _ (order : Term → Term → Ordering) (limit : ℕ) where
   pub RunsFrom-spent : (state : RunState) (pair : Pair) (others : List Pair) → state.pairs ≡ pair ∷ others → RunsFrom order limit 0 state PairsSpent
   RunsFrom-spent state pair others e = record { steps = 0; ends = ap (λ pairs. run_pairs order limit 0 0 pairs state) e }
 
-  pair_steps : (state : RunState) (pair : Pair) (others : List Pair) (division : Division)
-      → is_pair_over limit (element state pair.first) (element state pair.second) pair.lcm ≡ false
-      → (h : DividesTo order limit state.elements (s_vector order (element state pair.first) (element state pair.second)) division)
-      → take_pair order limit h.steps pair (without_pair others state) ≡ with_remainder order limit (without_pair others state) (Some division)
-  pair_steps state pair others division within h = let e = h.ends in rw (within, e)
-
-  -- a pair is taken
-  pub TakesFirst-over : (state : RunState) (pair : Pair) (others : List Pair) → state.pairs ≡ pair ∷ others
-      → is_pair_over limit (element state pair.first) (element state pair.second) pair.lcm ≡ true → TakesFirst order limit state Over
-  TakesFirst-over state pair others left over = record { steps = 0; pair = pair; others = others; left = left; takes = rw over }
-
-  pub TakesFirst-divided : (state : RunState) (pair : Pair) (others : List Pair) → state.pairs ≡ pair ∷ others
-      → is_pair_over limit (element state pair.first) (element state pair.second) pair.lcm ≡ false
-      → (division : Division) → DividesTo order limit state.elements (s_vector order (element state pair.first) (element state pair.second)) division
-      → (step : Step) → with_remainder order limit (without_pair others state) (Some division) ≡ Some step → TakesFirst order limit state step
-  TakesFirst-divided state pair others left within division h step e =
-      record { steps = h.steps; pair = pair; others = others; left = left; takes = pair_steps state pair others division within h ∙ e }
-
-  pub with_remainder-not_zero : (state : RunState) (r : ModuleVector) → r ≢ [] → with_remainder order limit state (Some (Remainder r)) ≡ Some (step_to (with_element order limit state (monic_of order r)))
-  with_remainder-not_zero state [] h = absurd (h refl)
-  with_remainder-not_zero state (t ∷ r) h = refl
-
-  -- and the run ends or goes on
+  -- a pair is taken, and the run ends or goes on
   pub RunsFrom-stopped : (budget : ℕ) (state : RunState) → TakesFirst order limit state Over → RunsFrom order limit (suc budget) state DegreeOver
   RunsFrom-stopped budget state h =
       record {

@@ -71,9 +71,6 @@ module _ {variables : ℕ} {order : Term → Term → Ordering} {high : ℕ → 
       AllKeys-subtract laws (IsTerm variables) (multiple_value (multiple_with_lead (lcm_term (lead g) (lead h)) g)) 1 (multiple_with_lead (lcm_term (lead g) (lead h)) h).0 h
       m.left.terms m.right.terms
 
-  Below : ModuleVector → ModuleVector → Term → Type 0
-  Below g h t = order (lcm_term (lead g) (lead h)) t ≡ Greater
-
   -- where the remainder is a combination of multiples of a greater list, below the least common multiple
   standard_from_remainder : (list more : List ModuleVector) → ((k : Multiple) → IsMultipleOf variables list k → IsMultipleOf variables more k)
       → (g h r : ModuleVector) → ReducesTo order variables list (λ t. order (lcm_term (lead g) (lead h)) t ≡ Greater) (s_vector order g h) r

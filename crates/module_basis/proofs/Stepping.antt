@@ -1,5 +1,5 @@
--- What the remainder of a pair's S-vector means for the run.
-use Rattle.std.proofs.Common.{◌≡◌, ◌≢◌, ℕ, ◌+◌, ◌-◌, ◌<◌, Bool, true, false, ◌||◌, Some, None, ◌⊎◌, inl, inr, length, get_or, List, [], ◌∷◌, sym, refl, ap, ◌∙◌, arith}
+-- The degrees of an S-vector, the two elements of a pair, and the list of a done run.
+use Rattle.std.proofs.Common.{◌≡◌, ◌≢◌, ℕ, ◌+◌, ◌-◌, ◌<◌, Bool, true, false, ◌||◌, length, get_or, List, [], sym, refl, ap, ◌∙◌, arith}
 use Rattle.std.specs.List.{All, Contains}
 use Rattle.std.specs.declared.cmp.Ordering.{Ordering}
 use Rattle.std.proofs.lemmas.List.Elements.{All-contains, All-weaker, All-contains_itself}
@@ -7,13 +7,12 @@ use Rattle.mono_order.specs.Term.{Term, lcm_term}
 use Rattle.mono_order.specs.TermOrder.{IsTermOrder}
 use Rattle.pair_queue.specs.declared.queue.Pair.{Pair}
 use Rattle.module_vec.specs.ModuleVector.{ModuleVector, lead, IsVector, IsMonicVector, IsMember, multiple_value}
-use Rattle.module_vec.specs.Division.{Remainder, OverDegree, DividesTo, is_over_degree, is_s_vector_over, monic_of, multiple_with_lead, s_vector}
+use Rattle.module_vec.specs.Division.{is_over_degree, is_s_vector_over, multiple_with_lead}
 use Rattle.module_vec.proofs.Submodules.{IsMember-generator, IsMember-least, IsSubmodule-IsMember}
 use Rattle.module_division.proofs.SVectors.{lcm_within}
-use Rattle.module_basis.specs.PlainRun.{RunState, Next, Over, step_to, with_element, with_remainder, element, is_pair_over, without_pair, pair_at, IsProper, TakesFirst, RunsTo, Done}
+use Rattle.module_basis.specs.PlainRun.{is_pair_over, pair_at, IsProper, RunsTo, Done}
 use Rattle.module_basis.specs.GroebnerBasis.{IsGroebnerBasis}
 use Rattle.module_basis.proofs.RunLaws.{run_groebner, run_monic}
-use Rattle.module_basis.proofs.RunSteps.{TakesFirst-over, TakesFirst-divided, with_remainder-not_zero}
 
 -- ---- the degrees of an S-vector
 
@@ -72,35 +71,6 @@ places elements q p =
       component = ap (λ (v : ModuleVector). (lead v).0) (sym g) ∙ (p.component ∙ ap (λ (v : ModuleVector). (lead v).0) h);
       lcm = ap (λ (r : Pair). r.lcm) p.is ∙ (λ k. lcm_term (lead (g k)) (lead (h k)));
     }
-
--- ---- the step
-
-module _ (order : Term → Term → Ordering) (limit : ℕ) (state : RunState) (pair : Pair) (others : List Pair) (left : state.pairs ≡ pair ∷ others) where
-  pub step-failed : (is_pair_over limit (element state pair.first) (element state pair.second) pair.lcm ≡ true)
-      ⊎ ((is_pair_over limit (element state pair.first) (element state pair.second) pair.lcm ≡ false)
-      × DividesTo order limit state.elements (s_vector order (element state pair.first) (element state pair.second)) OverDegree) → TakesFirst order limit state Over
-  step-failed (inl over) = TakesFirst-over order limit state pair others left over
-  step-failed (inr d) = TakesFirst-divided order limit state pair others left d.0 OverDegree d.1 Over refl
-
-  pub step-zero : (r : ModuleVector) → is_pair_over limit (element state pair.first) (element state pair.second) pair.lcm ≡ false
-      → DividesTo order limit state.elements (s_vector order (element state pair.first) (element state pair.second)) (Remainder r) → r ≡ [] → TakesFirst order limit state (Next (without_pair others state))
-  step-zero r within d e =
-      TakesFirst-divided order limit state pair others left within (Remainder r) d (Next (without_pair others state))
-      (ap (λ v. with_remainder order limit (without_pair others state) (Some (Remainder v))) e)
-
-  pub step-added : (r : ModuleVector) → is_pair_over limit (element state pair.first) (element state pair.second) pair.lcm ≡ false
-      → DividesTo order limit state.elements (s_vector order (element state pair.first) (element state pair.second)) (Remainder r) → r ≢ []
-      → (next : RunState) → with_element order limit (without_pair others state) (monic_of order r) ≡ Some next → TakesFirst order limit state (Next next)
-  step-added r within d not_zero next e =
-      TakesFirst-divided order limit state pair others left within (Remainder r) d (Next next)
-      (with_remainder-not_zero order limit (without_pair others state) r not_zero ∙ ap (λ s. Some (step_to s)) e)
-
-  pub step-over : (r : ModuleVector) → is_pair_over limit (element state pair.first) (element state pair.second) pair.lcm ≡ false
-      → DividesTo order limit state.elements (s_vector order (element state pair.first) (element state pair.second)) (Remainder r) → r ≢ []
-      → with_element order limit (without_pair others state) (monic_of order r) ≡ None → TakesFirst order limit state Over
-  step-over r within d not_zero e =
-      TakesFirst-divided order limit state pair others left within (Remainder r) d Over
-      (with_remainder-not_zero order limit (without_pair others state) r not_zero ∙ ap (λ s. Some (step_to s)) e)
 
 -- ---- the list of a done run
 

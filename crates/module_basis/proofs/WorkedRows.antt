@@ -1,6 +1,7 @@
 -- The definitions, computed on a small run: z1 e_0 + e_1, e_0 + e_2 and (z1 + z2 + 1) e_0 - e_3, where component
 -- 0 dominates.
 use Rattle.std.proofs.Common.{◌≡◌, Some, [], ◌∷◌, refl}
+use Rattle.mono_order.specs.declared.limits.TheConstants.{RUN_DEGREE}
 use Rattle.mono_order.specs.TermOrder.{zero_dominates}
 use Rattle.module_vec.specs.ModuleVector.{ModuleVector}
 use Rattle.module_vec.specs.Division.{Remainder, OverDegree, divide, s_vector}
@@ -36,13 +37,13 @@ unfolding g4 g5
 third_s_vector = refl
 
 -- its remainder is -z1 e_1 - z2 e_1 - z1 e_3 - e_1
-third_remainder : divide zero_dominates 250 (g1 ∷ g2 ∷ g3 ∷ g4 ∷ g5 ∷ []) 8 (s_vector zero_dominates g4 g5)
+third_remainder : divide zero_dominates RUN_DEGREE (g1 ∷ g2 ∷ g3 ∷ g4 ∷ g5 ∷ []) 8 (s_vector zero_dominates g4 g5)
     ≡ Some (Remainder (((1, 1 ∷ 0 ∷ []), 2147483646) ∷ ((3, 1 ∷ 0 ∷ []), 2147483646) ∷ ((1, 0 ∷ 1 ∷ []), 2147483646) ∷ ((1, 0 ∷ 0 ∷ []), 2147483646) ∷ []))
 unfolding g1 g2 g3 g4 g5
 third_remainder = refl
 
 -- z1^250 e_0 by z1 e_0 + z2^2 e_1 is over-degree
-over : divide zero_dominates 250 ((((0, 1 ∷ 0 ∷ []), 1) ∷ ((1, 0 ∷ 2 ∷ []), 1) ∷ []) ∷ []) 2 (((0, 250 ∷ 0 ∷ []), 1) ∷ []) ≡ Some OverDegree
+over : divide zero_dominates RUN_DEGREE ((((0, 1 ∷ 0 ∷ []), 1) ∷ ((1, 0 ∷ 2 ∷ []), 1) ∷ []) ∷ []) 2 (((0, 250 ∷ 0 ∷ []), 1) ∷ []) ≡ Some OverDegree
 over = refl
 
 -- the pair of the second and third element comes last, by its second number

@@ -2,14 +2,14 @@
 --     insert_descending, Descends    a vector is put at its place in a list that descends by lead
 --     IsSortedLow                    the vectors with low leads, in descending order
 --     IsKept                         what stays of a list: no lead divides another one, and each lead of the list is divisible
-use Rattle.std.specs.Prelude.{◌≡◌, ◌≢◌, ℕ, suc, ◌≤◌, Bool, false, if◌then◌else◌, sum, length, List, [], ◌∷◌}
+-- Source: the reduction of a Gröbner basis to the reduced one as in Using Algebraic Geometry of Cox, Little and O'Shea.
+use Rattle.std.specs.Prelude.{◌≢◌, ℕ, suc, ◌≤◌, Bool, if◌then◌else◌, length, List, [], ◌∷◌}
 use Rattle.std.specs.List.{AllByRecursion, Contains}
 use Rattle.std.specs.Ordering.{is_lt}
 use Rattle.std.specs.declared.cmp.Ordering.{Ordering}
 use Rattle.std.specs.declared.cmp.Ordering.TheVariants.{Less}
-use Rattle.ibp_algebra.specs.FormalSum.{AllKeys}
 use Rattle.mono_order.specs.Term.{Term}
-use Rattle.module_vec.specs.ModuleVector.{ModuleVector, lead, HasDivisor, IsMonicVector}
+use Rattle.module_vec.specs.ModuleVector.{ModuleVector, lead, HasDivisor}
 use Rattle.module_basis.specs.GroebnerBasis.{IsMinimal, AscendsByLead, low_elements}
 
 unfoldable pub insert_descending : (Term → Term → Ordering) → ModuleVector → List ModuleVector → List ModuleVector
@@ -20,10 +20,6 @@ insert_descending order g (h ∷ list) = if is_lt (order (lead g) (lead h)) then
 abbrev pub descending_place : (Term → Term → Ordering) → Term → List ModuleVector → ℕ
 descending_place order t [] = 0
 descending_place order t (h ∷ list) = if is_lt (order t (lead h)) then suc (descending_place order t list) else 0
-
--- monic, with low terms of bounded degree
-abbrev pub IsLowBounded : (Term → Term → Ordering) → ℕ → (ℕ → Bool) → ℕ → ModuleVector → Type 0
-IsLowBounded order variables high limit g = IsMonicVector order variables g × AllKeys (λ t. (high t.0 ≡ false) × (sum t.1 ≤ limit)) g
 
 abbrev pub Descends : (Term → Term → Ordering) → List ModuleVector → Type 0
 Descends order [] = Unit {0}

@@ -22,7 +22,7 @@ use Rattle.module_vec.specs.Division.{Division, Remainder, OverDegree, DividesTo
 use Rattle.module_vec.proofs.Multiples.{IsMonicVector-multiply, IsTerm-lead, lead-multiply}
 use Rattle.module_vec.proofs.Degrees.{AllKeys-at, AllKeys-within}
 use Rattle.module_vec.proofs.DivisionLaws.{IsCanonical-subtract, AllBelow-subtract, AllKeys-subtract}
-use Rattle.module_vec.proofs.DivisionSteps.{prefixed, prefixed-none, prefixed-more, DividesTo-zero, DividesTo-moved, DividesTo-over, DividesTo-subtracted}
+use Rattle.module_vec.proofs.DivisionSteps.{prefixed, prefixed-more, DividesTo-zero, DividesTo-moved, DividesTo-over, DividesTo-subtracted}
 use Rattle.module_vec.proofs.Measure.{lead_measure-falls}
 
 AllKeys-parts : {K : Type 0} (P : K → Type 0) (f g : FormalSum K) → AllKeys P (f ++ g) → AllKeys P f × AllKeys P g
@@ -89,13 +89,6 @@ pub record Settled (order : Term → Term → Ordering) (limit : ℕ) (list : Li
   pub steps : (d : Division) → DividesTo order limit list (drop n whole) d → DividesTo order limit list v (prefixed (take n whole) d)
 
 module _ (order : Term → Term → Ordering) (limit : ℕ) (list : List ModuleVector) where
-  pub Settled-start : (v whole : ModuleVector) → whole ≡ v → Settled order limit list v whole 0
-  Settled-start v whole is =
-      record {
-        within = omega arith;
-        steps = λ d h. subst (DividesTo order limit list v) (sym (prefixed-none d)) (subst (λ (w : ModuleVector). DividesTo order limit list w d) is h);
-      }
-
   pub Settled-moved : (v whole : ModuleVector) (n : ℕ) (item : Term × ℕ) → n < length whole → item ≡ get_or whole n item → first_divisor list item.0 ≡ None
       → Settled order limit list v whole n → Settled order limit list v whole (n + 1)
   Settled-moved v whole n item within is none h =

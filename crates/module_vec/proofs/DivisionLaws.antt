@@ -360,18 +360,3 @@ module _ {variables : ℕ} {order : Term → Term → Ordering} {high : ℕ → 
               (AllKeys-subtract (IsTerm variables) (t ∷ v) t.1 m g valid f.value_monic.terms) (AllKeys-subtract P (t ∷ v) t.1 m g p multiple_kind)
               (rw within at k)
         ] refl e
-
-    -- The remainder of a vector: what is taken off is a sum of multiples whose leads are not above its lead.
-    pub DividesTo-reduces : (limit : ℕ) (v r : ModuleVector) → IsCanonical order v → AllKeys (IsTerm variables) v → DividesTo order limit list v (Remainder r)
-        → ReducesTo order variables list (λ u. order (lead v) u ≢ Less) v r
-    DividesTo-reduces limit v r c valid d =
-        divide_reduces limit d.steps (λ u. order (lead v) u ≢ Less)
-        (λ t u h above less. let k = not_less-Greater order laws.total laws.unique (lead v) t u h above in let clash : Less ≡ Greater = sym less ∙ k in cc)
-        v r c valid (not_above v c) d.ends
-      where
-        not_above : (v : ModuleVector) → IsCanonical order v → AllKeys (λ u. order (lead v) u ≢ Less) v
-        not_above [] c = tt
-        not_above (t ∷ v) c = (
-          (λ e. let equal = order_refl order laws.total t.0 in let clash : Less ≡ Equal = sym e ∙ equal in cc),
-          AllKeys-weaker _ _ (λ u above e. let clash : Less ≡ Greater = sym e ∙ above in cc) v c.2,
-        )

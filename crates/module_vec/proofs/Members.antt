@@ -35,13 +35,6 @@ module _ (variables : ℕ) (Member : ModuleVector → Type 0) (submodule : IsSub
       record { same_residue = omega (arith, whole, weighted_sum-append w r taken, weighted_sum-append w v (scale 2147483646 taken), weighted_sum-scale w 2147483646 taken) }))
       (submodule.sum v _ member (submodule.scaled 2147483646 taken (Member-combination order list P v r holds h)))
 
-  -- And a vector is a member where its remainder is.
-  pub Member-from_remainder : (order : Term → Term → Ordering) (list : List ModuleVector) (P : Term → Type 0) (v r : ModuleVector)
-      → ((g : ModuleVector) → Contains list g → Member g) → ReducesTo order variables list P v r → Member r → Member v
-  Member-from_remainder order list P v r holds h member =
-      submodule.same (r ++ combination multiple_value h.summands) v (SameCoefficients-sym h.sum)
-      (submodule.sum r _ member (Member-combination order list P v r holds h))
-
   module _ {order : Term → Term → Ordering} {high : ℕ → Bool} {height : Term → ℕ} {bound : ℕ} (laws : IsTermOrder variables order high height bound) where
     pub Member-subtract : (v : ModuleVector) (c : ℕ) (m : List ℕ) (g : ModuleVector) → length m ≡ variables → Member v → Member g → Member (subtract_multiple order v c m g)
     Member-subtract v c m g p h k =

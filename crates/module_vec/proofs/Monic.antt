@@ -31,14 +31,6 @@ module _ {variables : ℕ} {order : Term → Term → Ordering} {high : ℕ → 
         | Greater ↦ λ e. absurd (omega (arith, above u.0 e, coefficient_at_lead laws (u ∷ v) c, c.0))
       ] refl
 
-  -- canonical vectors with the same coefficients have one lead
-  pub lead-same : (v w : ModuleVector) → IsCanonical order v → IsCanonical order w → SameVector v w → v ≢ [] → lead w ≡ lead v
-  lead-same [] w c d s not_zero = absurd (not_zero refl)
-  lead-same (t ∷ v) w c d s not_zero =
-      lead-from_coefficients w d t.0
-      (λ zero. omega (arith, c.0, coefficient_at_lead laws (t ∷ v) c, s.same_at t.0, zero))
-      (λ k above. sym (s.same_at k) ∙ coefficient_above_lead laws (t ∷ v) c k above)
-
   inverse_scaled : (v : ModuleVector) → IsCanonical order v → v ≢ [] → IsCongruent (inverse_mod (lead_coefficient v) * lead_coefficient v) 1
   inverse_scaled [] c not_zero = absurd (not_zero refl)
   inverse_scaled (t ∷ v) c not_zero = inverse_mod-inverts t.1 c.0 c.1

@@ -1,4 +1,5 @@
--- A vector lies in the submodule exactly where it is a sum of polynomials times the generators.
+-- The definition of a member is the textbook's, which no proof needs: a vector lies in the submodule exactly where it
+-- is a sum of polynomials times the generators.
 use Rattle.std.proofs.Common.{◌≡◌, ℕ, zero, suc, ◌+◌, ◌*◌, ◌<◌, ◌↔◌, length, get_or, List, [], ◌∷◌, sym, refl, ap, ◌∙◌, arith}
 use Rattle.std.specs.List.{AllByRecursion, Contains}
 use Rattle.ibp_algebra.specs.FormalSum.{FormalSum, weighted_sum, AllKeys, scale, map_keys}

@@ -1,11 +1,10 @@
 -- The loops over the exponents of two power products, place by place.
-use Rattle.std.proofs.Common.{◌≡◌, ◌≢◌, ℕ, zero, suc, ◌+◌, ◌-◌, ◌<◌, ◌≤◌, Bool, true, false, List, [], ◌∷◌, sum, length, get_or, set, sym, refl, ap, ◌∙◌, arith, below_more, get_or-set_other, get_or-set_same, zero-add, add-zero}
+use Rattle.std.proofs.Common.{◌≡◌, ℕ, zero, suc, ◌+◌, ◌-◌, ◌<◌, ◌≤◌, Bool, true, false, List, [], ◌∷◌, sum, length, get_or, sym, refl, ◌∙◌, arith, zero-add, add-zero}
 use Rattle.std.specs.Prelude.{nat_eq, nat_le, max}
 use Rattle.std.specs.Cmp.{unsigned_Decides}
 use Rattle.std.proofs.lemmas.Bool.{leb-true, le-leb}
 use Rattle.std.proofs.lemmas.List.Sums.{sum_by-cons}
 use Rattle.std.proofs.lemmas.Grind.{same_number_lists}
-use Rattle.std.proofs.Math.ListN.{length-set}
 use Rattle.ibp_algebra.specs.Exponents.{add_exponents}
 use Rattle.ibp_algebra.proofs.ExponentLaws.{length-padded_sum, get_or-padded_sum}
 use Rattle.mono_order.specs.Term.{divides_exponents, quotient_exponents, lcm_exponents}
@@ -16,29 +15,6 @@ pub record Combined (op : ℕ → ℕ → ℕ) (n : ℕ) (a b xs : List ℕ) (i 
   pub long : length xs ≡ n
   pub done : (k : ℕ) → k < i → get_or xs k 0 ≡ op (get_or a k 0) (get_or b k 0)
   pub rest : (k : ℕ) → i ≤ k → get_or xs k 0 ≡ get_or a k 0
-
-pub Combined-start : (op : ℕ → ℕ → ℕ) (n : ℕ) (a b : List ℕ) → length a ≡ n → Combined op n a b a 0
-Combined-start op n a b p = record { long = p; done = λ k h. absurd (omega arith); rest = λ k h. refl }
-
-combined_at : (op : ℕ → ℕ → ℕ) (xs a b : List ℕ) (i y : ℕ) → i < length xs → y ≡ op (get_or a i 0) (get_or b i 0)
-    → ((k : ℕ) → k < i → get_or xs k 0 ≡ op (get_or a k 0) (get_or b k 0))
-    → (k : ℕ) → k < i + 1 → get_or (set xs i y) k 0 ≡ op (get_or a k 0) (get_or b k 0)
-combined_at op xs a b i y within is done =
-    below_more _ _
-    (λ k h. let other : k ≢ i = omega arith in rw get_or-set_other (done k h))
-    (rw get_or-set_same is)
-
-kept_after : (xs a : List ℕ) (i y : ℕ) → ((k : ℕ) → i ≤ k → get_or xs k 0 ≡ get_or a k 0) → (k : ℕ) → i + 1 ≤ k → get_or (set xs i y) k 0 ≡ get_or a k 0
-kept_after xs a i y rest k h = let other : k ≢ i = omega arith in rw get_or-set_other (rest k (omega arith))
-
--- one more place
-pub Combined-step : (op : ℕ → ℕ → ℕ) (n : ℕ) (a b xs : List ℕ) (i y : ℕ) → i < n → y ≡ op (get_or xs i 0) (get_or b i 0)
-    → Combined op n a b xs i → Combined op n a b (set xs i y) (i + 1)
-Combined-step op n a b xs i y within is h = record {
-  long = length-set xs i y ∙ h.long;
-  done = combined_at op xs a b i y (omega (arith, h.long)) (is ∙ ap (λ x. op x (get_or b i 0)) (h.rest i (omega arith))) h.done;
-  rest = kept_after xs a i y h.rest;
-}
 
 -- the list that has the combined exponents at each place
 combined_whole : (op : ℕ → ℕ → ℕ) (n i : ℕ) (a b xs whole : List ℕ) → n ≤ i → Combined op n a b xs i → length whole ≡ n

@@ -124,12 +124,6 @@ divides-multiple m t p = and_true _ _ ((unsigned_Decides t.0 t.0).1 refl) (divid
 pub IsTerm-lcm : (variables : ℕ) (s t : Term) → IsTerm variables s → IsTerm variables t → IsTerm variables (lcm_term s t)
 IsTerm-lcm variables s t h k = record { component = h.component; exponents = length-padded_sum max variables s.1 t.1 h.exponents k.exponents }
 
-pub divides-lcm_first : (s t : Term) → length s.1 ≡ length t.1 → divides s (lcm_term s t) ≡ true
-divides-lcm_first s t p = and_true _ _ ((unsigned_Decides s.0 s.0).1 refl) (divides-lcm_left s.1 t.1 p)
-
-pub divides-lcm_second : (s t : Term) → length s.1 ≡ length t.1 → s.0 ≡ t.0 → divides t (lcm_term s t) ≡ true
-divides-lcm_second s t p component = and_true _ _ ((unsigned_Decides t.0 s.0).1 (sym component)) (divides-lcm_right s.1 t.1 p)
-
 -- The quotient of a common multiple by the least common multiple, times that of the latter by a factor, is
 -- the quotient by the factor.
 pub quotient_through : (n : ℕ) (m s l top : List ℕ) → length m ≡ n → length s ≡ n → length l ≡ n → divides_exponents s l ≡ true → divides_exponents l top ≡ true

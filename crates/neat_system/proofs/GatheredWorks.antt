@@ -28,19 +28,11 @@ labels_at_more old now seed count field so_far next =
     let more : labels_at (count + 1) seed ≡ labels_at count seed ++ label field ∷ [] = map-range_with_len_more label 1 count field (omega arith) in
     ap (λ xs. xs ++ label field ∷ []) so_far ∙ append_assoc old (labels_at count seed) (label field ∷ []) ∙ ap (λ xs. old ++ xs) (sym more)
 
-pub labels_more : (old now : List Label) (fields : ℕ) (seeds : List Integral) (i : ℕ) (seed : Integral) → i < length seeds → seed ≡ get_or seeds i seed
-    → now ≡ old ++ labels fields (take i seeds) → now ++ labels_at fields seed ≡ old ++ labels fields (take (i + 1) seeds)
-labels_more old now fields seeds i seed inside is so_far =
-    ap (λ xs. xs ++ labels_at fields seed) so_far ∙ flat_map_more (labels_at fields) old (take i seeds) seed ∙ ap (λ xs. old ++ labels fields xs) (sym (taken seeds i seed inside is))
-
 zip_push : {A B : Type 0} (R : A → B → Type 0) (xs : List A) (ys : List B) (x : A) (y : B) → AllZip R xs ys → R x y → AllZip R (xs ++ x ∷ []) (ys ++ y ∷ [])
 zip_push R [] [] x y all one = (one, tt)
 zip_push R [] (b ∷ ys) x y all one = absurd all
 zip_push R (a ∷ xs) [] x y all one = absurd all
 zip_push R (a ∷ xs) (b ∷ ys) x y all one = (all.0, zip_push R xs ys x y all.1 one)
-
-pub gathers_none : (family : FamilyData) (gathered : Gathered) → gathered.blocks.items ≡ [] → gathered.labels.items ≡ [] → gathered.candidates.items ≡ [] → Gathers family [] gathered
-gathers_none family gathered blocks labels candidates = record { works = []; are_works = tt; blocks = blocks; labels = ap (map _) labels; candidates = candidates }
 
 pub gathers_more : (family : FamilyData) (pieces : List ResultValue) (i : ℕ) (piece : ResultValue) (old new : Gathered) → i < length pieces → piece ≡ get_or pieces i piece
     → Gathers family (take i pieces) old → Gains family piece old new → Gathers family (take (i + 1) pieces) new

@@ -15,7 +15,7 @@ use Rattle.ibp_algebra.proofs.Weights.{weighted_sum-append, weighted_sum-scale, 
 use Rattle.ibp_algebra.proofs.ZeroDivisors.{AllKeys-append}
 use Rattle.ibp_algebra.proofs.Canonical.{AllBelow-trans, Greater-reverse}
 use Rattle.ibp_algebra.proofs.NormalForm.{weighted_sum-with_term, AllKeys-with_term, IsCanonical-with_term}
-use Rattle.ibp_algebra.proofs.SumLaws.{SameCoefficients-refl, SameCoefficients-trans}
+use Rattle.ibp_algebra.proofs.SumLaws.{SameCoefficients-trans}
 use Rattle.sparse_terms.proofs.Ties.{ties_decide}
 
 AllKeys-along : {K : Type 0} (P Q : K → Type 0) → ((k : K) → P k → Q k) → (f : FormalSum K) → AllKeys P f → AllKeys Q f
@@ -45,17 +45,6 @@ module _ {K : Type 0} (order : K → K → Ordering) (total : IsTotalOrder order
 
   decides : (a b : K) → Decides (same a b) (a ≡ b)
   decides = ties_decide order total unique
-
-  pub Merging-start : (factor : ℕ) (left right : FormalSum K) → IsCanonical order left → IsCanonical order right
-      → Merging order factor (left ++ scale factor right) [] left right
-  Merging-start factor left right p q = record {
-    canonical = tt;
-    left_canonical = p;
-    right_canonical = q;
-    above_left = tt;
-    above_right = tt;
-    sum = SameCoefficients-refl same (left ++ scale factor right);
-  }
 
   -- a term moves to what is done
   move_term : (factor : ℕ) (whole done left right : FormalSum K) (t : K × ℕ) (rest rest' : FormalSum K) → Merging order factor whole done left right

@@ -6,7 +6,7 @@ use Rattle.module_vec.specs.ModuleVector.{ModuleVector, lead, IsMember, IsMonicV
 use Rattle.module_basis.specs.GroebnerBasis.{IsReducedBasis, IsLowMember, IsTailReduced}
 use Rattle.module_basis.specs.Reducing.{IsSortedLow}
 use Rattle.module_basis.proofs.Keeping.{sorted_vectors, kept_vectors}
-use Rattle.module_basis.proofs.ReducedBasisExists.{reduced_low}
+use Rattle.module_basis.proofs.Reducing.{reduced_low}
 use Rattle.module_basis.proofs.reduce.reduced_low.Goals as goal
 
 pub undivided-requires-clause-monic : goal.undivided-requires-clause-monic

@@ -1,7 +1,6 @@
--- A basis of low vectors of bounded degree can be made reduced: its vectors are put in descending order, each
--- one whose lead is divisible by the lead of a later one that stays is dropped, and the tails are reduced. No
--- division meets the limit on degrees.
-use Rattle.std.proofs.Common.{◌≡◌, ◌≢◌, ℕ, zero, suc, ◌+◌, ◌<◌, ◌≤◌, Bool, true, false, if◌then◌else◌, Option, Some, None, ◌⊎◌, inl, inr, ⊎_elim, sum, length, get_or, List, [], ◌∷◌, ◌++◌, sym, refl, ap, ◌∙◌, arith, length-append}
+-- From a basis to the reduced one: vectors are put in descending order, one whose lead is divisible by the lead of
+-- another that stays is dropped, and with reduced tails the rest is the reduced basis.
+use Rattle.std.proofs.Common.{◌≡◌, ◌≢◌, ℕ, zero, suc, ◌+◌, ◌<◌, ◌≤◌, Bool, true, false, if◌then◌else◌, Some, None, ◌⊎◌, inl, inr, ⊎_elim, length, get_or, List, [], ◌∷◌, ◌++◌, sym, refl, ap, ◌∙◌, arith, length-append}
 use Rattle.std.specs.List.{All, AllByRecursion, AllZip, Contains}
 use Rattle.std.specs.Ordering.{is_lt}
 use Rattle.std.specs.declared.cmp.Ordering.{Ordering}
@@ -9,27 +8,22 @@ use Rattle.std.specs.declared.cmp.Ordering.TheVariants.{Less, Equal, Greater}
 use Rattle.std.proofs.Math.Seq.{get_or-append_seam}
 use Rattle.std.proofs.lemmas.Bool.{cases_lt}
 use Rattle.std.proofs.lemmas.List.{get_or_append_left}
-use Rattle.std.proofs.lemmas.List.Elements.{All-contains, All-weaker, All-contains_itself, recursion_from_All, All-from_recursion, Contains-get_or, Contains-append_left, Contains-append_cases, Contains-push, length_all_zip}
-use Rattle.ibp_algebra.specs.FormalSum.{AllKeys}
+use Rattle.std.proofs.lemmas.List.Elements.{All-contains, All-weaker, All-contains_itself, All-from_recursion, Contains-get_or, Contains-append_left, Contains-append_cases, Contains-push}
 use Rattle.ibp_algebra.proofs.Canonical.{Less-reverse, Greater-reverse}
 use Rattle.ibp_algebra.proofs.StandardRepresentations.{not_less-trans}
 use Rattle.mono_order.specs.Term.{Term, divides}
 use Rattle.mono_order.specs.TermOrder.{IsTermOrder}
 use Rattle.mono_order.proofs.Terms.{divides-refl, divides-order}
-use Rattle.module_vec.specs.ModuleVector.{ModuleVector, lead, IsMonicVector, IsMember, IsSubmodule, HasDivisor}
+use Rattle.module_vec.specs.ModuleVector.{ModuleVector, lead, IsMonicVector, IsMember, HasDivisor}
 use Rattle.module_vec.specs.Division.{first_divisor}
 use Rattle.module_vec.proofs.Multiples.{IsTerm-lead}
 use Rattle.module_vec.proofs.Submodules.{IsSubmodule-IsMember}
 use Rattle.module_vec.proofs.DivisionLaws.{first_divisor-some, first_divisor-none}
 use Rattle.module_basis.specs.GroebnerBasis.{IsGroebnerBasis, IsReducedBasis, IsLowMember, low_elements, IsTailReduced}
-use Rattle.module_basis.specs.Reducing.{insert_descending, Descends, IsSortedLow, IsLowBounded, IsKept}
-use Rattle.module_basis.proofs.ReducedBases.{IsSubmodule-IsLowMember, from_low_elements, elimination, IsGroebnerBasis-leads, reduced_from_minimal, IsTailReduced-divided, low_division}
+use Rattle.module_basis.specs.Reducing.{insert_descending, Descends, IsSortedLow, IsKept}
+use Rattle.module_basis.proofs.ReducedBases.{IsSubmodule-IsLowMember, from_low_elements, elimination, IsGroebnerBasis-leads, reduced_from_minimal}
 
 -- ---- descending order
-
-descending : (Term → Term → Ordering) → List ModuleVector → List ModuleVector
-descending order [] = []
-descending order (g ∷ list) = insert_descending order g (descending order list)
 
 Every-insert_if : (P : ModuleVector → Type 0) (b : Bool) (g h : ModuleVector) (list after : List ModuleVector) → P g → AllByRecursion P (h ∷ list) → AllByRecursion P after
     → AllByRecursion P (if b then (h ∷ after) else (g ∷ h ∷ list))
@@ -40,11 +34,6 @@ pub Every-insert : (P : ModuleVector → Type 0) (order : Term → Term → Orde
 unfolding insert_descending
 Every-insert P order g [] p h = (p, tt)
 Every-insert P order g (x ∷ list) p h = Every-insert_if P _ g x list (insert_descending order g list) p h (Every-insert P order g list p h.1)
-
-Every-descending : (P : ModuleVector → Type 0) (order : Term → Term → Ordering) (list : List ModuleVector) → AllByRecursion P list → AllByRecursion P (descending order list)
-unfolding descending
-Every-descending P order [] h = tt
-Every-descending P order (g ∷ list) h = Every-insert P order g (descending order list) h.0 (Every-descending P order list h.1)
 
 -- nothing is lost
 pub cons_contains : {X : Type 0} (x : X) (list : List X) (g : X) → Contains list g → Contains (x ∷ list) g
@@ -71,24 +60,7 @@ Contains-insert order g [] x (inl e) = (0, omega arith, e)
 Contains-insert order g [] x (inr c) = cons_contains g [] x c
 Contains-insert order g (h ∷ list) x c = Contains-insert_if _ g h list (insert_descending order g list) x (Contains-insert order g list x) c
 
-Contains-descending : (order : Term → Term → Ordering) (list : List ModuleVector) (x : ModuleVector) → Contains list x → Contains (descending order list) x
-unfolding descending
-Contains-descending order [] x c = c
-Contains-descending order (g ∷ list) x c =
-    Contains-insert order g (descending order list) x
-    (elim (cons_cases g list x c) as (λ k. (g ≡ x) ⊎ Contains (descending order list) x) [ inl e ↦ inl e | inr k ↦ inr (Contains-descending order list x k) ])
-
 -- ---- dropping
-
--- a vector is put at the end, unless a lead of the list divides its lead
-with_undivided : Option ModuleVector → ModuleVector → List ModuleVector → List ModuleVector
-with_undivided (Some h) g list = list
-with_undivided None g list = list ++ g ∷ []
-
--- of a descending list
-minimal : List ModuleVector → List ModuleVector
-minimal [] = []
-minimal (g ∷ list) = with_undivided (first_divisor (minimal list) (lead g)) g (minimal list)
 
 at_old : (list : List ModuleVector) (g : ModuleVector) (i : ℕ) → i < length list → get_or (list ++ g ∷ []) i [] ≡ get_or list i []
 at_old list g i below = get_or_append_left list (g ∷ []) [] i below
@@ -130,11 +102,6 @@ module _ {variables : ℕ} {order : Term → Term → Ordering} {high : ℕ → 
           → AllByRecursion (λ y. order (lead g) (lead y) ≢ Less) list
       later g x [] p h = tt
       later g x (y ∷ list) p h = (not_less-trans order laws.total laws.unique (lead g) (lead x) (lead y) p h.0, later g x list p h.1)
-
-  Descends-descending : (list : List ModuleVector) → Descends order (descending order list)
-  unfolding descending
-  Descends-descending [] = tt
-  Descends-descending (g ∷ list) = Descends-insert g (descending order list) (Descends-descending list)
 
   -- a vector that is dropped
   pub kept_dropped : (g : ModuleVector) (list kept : List ModuleVector) → IsKept order list kept → (h : ModuleVector) → first_divisor kept (lead g) ≡ Some h → IsKept order (g ∷ list) kept
@@ -216,39 +183,7 @@ module _ {variables : ℕ} {order : Term → Term → Ordering} {high : ℕ → 
         short = omega (arith, k.short, long);
       }
 
-  minimal_kept : (list : List ModuleVector) → ((x : ModuleVector) → Contains list x → IsMonicVector order variables x) → Descends order list → IsKept order list (minimal list)
-  unfolding minimal with_undivided
-  minimal_kept [] monic down =
-      record {
-        within = λ x c. c;
-        divided = λ x c. absurd (omega (arith, c.1));
-        ascends = λ i below j less. absurd (omega (arith, below));
-        is_minimal = λ i j first second apart. absurd (omega (arith, first));
-        short = omega arith;
-      }
-  minimal_kept (g ∷ list) monic down =
-      let rest = minimal_kept list (λ x c. monic x (cons_contains g list x c)) down.1 in
-      elim (first_divisor (minimal list) (lead g)) as (λ o. first_divisor (minimal list) (lead g) ≡ o → IsKept order (g ∷ list) (with_undivided o g (minimal list))) [
-        | Some h ↦ λ e. kept_dropped g list (minimal list) rest h e
-        | None ↦ λ e. kept_added g list (minimal list) rest monic down.0 e
-      ] refl
-
   -- ---- tails
-
-  tail_reduced : (list : List ModuleVector) → All (IsMonicVector order variables) list → (limit : ℕ) (g : ModuleVector) → IsLowBounded order variables high limit g
-      → (r : ModuleVector) × IsTailReduced order variables list g r
-  tail_reduced list monic limit [] h = absurd (let e = h.0.monic in omega arith)
-  tail_reduced list monic limit (t ∷ tail) h =
-      let divided = low_division laws list monic limit tail h.0.canonical.3 h.0.terms.1 h.1.1 in
-      (t ∷ divided.0, IsTailReduced-divided laws list monic limit t tail divided.0 h.0.canonical h.0.terms divided.1)
-
-  tails_reduced : (list : List ModuleVector) → All (IsMonicVector order variables) list → (limit : ℕ) (part : List ModuleVector) → AllByRecursion (IsLowBounded order variables high limit) part
-      → (more : List ModuleVector) × AllZip (IsTailReduced order variables list) part more
-  tails_reduced list monic limit [] h = ([], tt)
-  tails_reduced list monic limit (g ∷ part) h =
-      let first = tail_reduced list monic limit g h.0 in
-      let rest = tails_reduced list monic limit part h.1 in
-      (first.0 ∷ rest.0, (first.1, rest.1))
 
   length-insert_if : (b : Bool) (g h : ModuleVector) (list after : List ModuleVector) → length after ≡ suc (length list) → length (if b then (h ∷ after) else (g ∷ h ∷ list)) ≡ suc (suc (length list))
   length-insert_if true g h list after e = omega (arith, e)
@@ -258,43 +193,6 @@ module _ {variables : ℕ} {order : Term → Term → Ordering} {high : ℕ → 
   unfolding insert_descending
   length-insert g [] = refl
   length-insert g (h ∷ list) = length-insert_if _ g h list (insert_descending order g list) (length-insert g list)
-
-  length-descending : (list : List ModuleVector) → length (descending order list) ≡ length list
-  unfolding descending
-  length-descending [] = refl
-  length-descending (g ∷ list) = omega (arith, length-insert g (descending order list), length-descending list)
-
-  -- The reduced basis exists, and has at most as many vectors as the basis.
-  pub reduced_basis_exists : (Member : ModuleVector → Type 0) → IsSubmodule variables Member → (limit : ℕ) (list : List ModuleVector) → All (IsMonicVector order variables) list
-      → All (λ g. AllKeys (λ t. (high t.0 ≡ false) × (sum t.1 ≤ limit)) g) list → IsGroebnerBasis order Member list
-      → (reduced : List ModuleVector) × IsReducedBasis order variables Member reduced × (length reduced ≤ length list)
-  reduced_basis_exists Member submodule limit list monic low basis =
-      let sorted = descending order list in
-      let in_list : (x : ModuleVector) → Contains sorted x → Contains list x =
-      λ x c. All-contains (Contains list) sorted x (All-from_recursion (Contains list) sorted (Every-descending (Contains list) order list (recursion_from_All (Contains list) list (All-contains_itself list)))) c
-      in
-      let kept = minimal sorted in
-      let k = minimal_kept sorted (λ x c. All-contains (IsMonicVector order variables) list x monic (in_list x c)) (Descends-descending list) in
-      let kept_in = λ (x : ModuleVector) (c : Contains kept x). in_list x (k.within x c) in
-      let kept_monic : All (IsMonicVector order variables) kept =
-      All-weaker (Contains kept) (IsMonicVector order variables) (λ x c. All-contains (IsMonicVector order variables) list x monic (kept_in x c)) kept (All-contains_itself kept)
-      in
-      let kept_basis : IsGroebnerBasis order Member kept =
-      IsGroebnerBasis-leads laws Member list kept basis
-      (All-weaker (Contains kept) Member (λ x c. All-contains Member list x basis.members (kept_in x c)) kept (All-contains_itself kept))
-      (λ g c. k.divided g (Contains-descending order list g c))
-      in
-      let bounded : AllByRecursion (λ g. IsMonicVector order variables g × AllKeys (λ t. (high t.0 ≡ false) × (sum t.1 ≤ limit)) g) kept =
-      recursion_from_All (λ g. IsMonicVector order variables g × AllKeys (λ t. (high t.0 ≡ false) × (sum t.1 ≤ limit)) g) kept
-      (All-weaker (Contains kept) (λ g. IsMonicVector order variables g × AllKeys (λ t. (high t.0 ≡ false) × (sum t.1 ≤ limit)) g)
-      (λ x c. (All-contains (IsMonicVector order variables) list x monic (kept_in x c), All-contains (λ g. AllKeys (λ t. (high t.0 ≡ false) × (sum t.1 ≤ limit)) g) list x low (kept_in x c)))
-      kept (All-contains_itself kept))
-      in
-      let tails = tails_reduced kept kept_monic limit kept bounded in (
-        tails.0,
-        reduced_from_minimal laws Member submodule kept tails.0 kept_monic kept_basis k.ascends k.is_minimal tails.1,
-        omega (arith, k.short, length-descending list, length_all_zip (IsTailReduced order variables kept) kept tails.0 tails.1),
-      )
 
   -- what stays of the vectors with low leads, with reduced tails, is the reduced basis of the low members
   pub reduced_low : (elements sorted kept reduced : List ModuleVector) → All (IsMonicVector order variables) elements → IsSortedLow order high elements sorted → IsKept order sorted kept
