@@ -2,6 +2,7 @@
 -- sum, stands for the sum of these values, each times its coefficient.
 --     combination value f       the sum of the values
 --     IsEqualBelow              two indices whose values differ by a combination of values with lesser leads
+-- Source: linear algebra; combinations with lesser leads are the lcm representations of Ideals, Varieties, and Algorithms of Cox, Little and O'Shea.
 use Rattle.std.specs.Prelude.{◌≡◌, Bool, [], ◌∷◌, ◌++◌}
 use Rattle.std.specs.declared.cmp.Ordering.{Ordering}
 use Rattle.std.specs.declared.cmp.Ordering.TheVariants.{Greater}

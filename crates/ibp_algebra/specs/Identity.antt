@@ -2,6 +2,7 @@
 -- the one Laurent polynomial R such that R times P is the divergence of the field times P^γ z^(-α),
 -- divided by P^(γ - 1):
 --     R * P = sum over i of ( d_i(a_i z^(-α)) * P + γ * a_i z^(-α) * d_i P )
+-- Source: integration by parts as of Chetyrkin and Tkachov, in Baikov's representation of Feynman integrals.
 use Rattle.std.specs.Prelude.{◌≡◌, ℕ, suc, ℤ, pos, neg_ℤ, ◌<ℤ◌, ◌≤ℤ◌, Bool, IsTrue, IsFalse, List, [], ◌∷◌, ◌++◌, length, map}
 use Rattle.std.specs.Ordering.{int_cmp, is_lt}
 use Rattle.ibp_algebra.specs.FormalSum.{AllKeys, scale}

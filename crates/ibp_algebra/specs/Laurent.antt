@@ -5,6 +5,7 @@
 --     power_product k           z^k
 --     laurent_derivative i f    by the variable at place i: c z^k gives c*k_i z^(k - e_i)
 --     laurent n f               the polynomial f, which has no variable beyond the first n
+-- Source: textbook algebra.
 use Rattle.std.specs.Prelude.{ℕ, zero, suc, ◌*◌, ℤ, pos, negsuc, ◌+ℤ◌, Bool, List, [], ◌∷◌, map, slice_index_or}
 use Rattle.std.specs.Ordering.{int_eq}
 use Rattle.std.specs.Cmp.Lexicographic.{pointwise}

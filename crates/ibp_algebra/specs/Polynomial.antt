@@ -10,6 +10,7 @@
 --     set_zero i f              the terms without the variable at place i
 --     permute to f              each variable replaced by the one whose number, from 1, `to` has at its place
 --     degree_of f               the greatest total degree of a term, 0 where there is none
+-- Source: textbook algebra; the degree and the products as in Ideals, Varieties, and Algorithms of Cox, Little and O'Shea.
 use Rattle.std.specs.Prelude.{◌≢◌, ℕ, suc, ◌-◌, ◌*◌, ◌<◌, max, nat_lt, List, [], ◌∷◌, ◌++◌, map, sum, slice_index, slice_set}
 use Rattle.ibp_algebra.specs.FormalSum.{FormalSum, coefficient, SameCoefficients, map_keys, strike, product}
 use Rattle.ibp_algebra.specs.Exponents.{add_exponents, same_exponents, permute_exponents}

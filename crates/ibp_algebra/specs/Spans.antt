@@ -6,6 +6,7 @@
 --     IsLead order f key            the highest key at which f is not zero
 --     IsReducedForm order V f w     w differs from f by a member of V, and no lead of V occurs in w
 -- `order` is the order of the keys, and two keys are the same where neither is higher.
+-- Source: linear algebra. A reduced form is what Laporta's algorithm gives, with the highest integrals eliminated first.
 use Rattle.std.specs.Prelude.{◌≡◌, ◌≢◌, ℕ, List, [], ◌++◌, slice_index_or}
 use Rattle.std.specs.Ordering.{eq_by_cmp}
 use Rattle.std.specs.declared.cmp.Ordering.{Ordering}

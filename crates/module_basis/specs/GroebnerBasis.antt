@@ -10,6 +10,7 @@
 --     IsReducedBasis                one that ascends, is monic, and where no term of one vector is divisible by
 --                                   the lead of another one
 --     IsReducedLowBasis             that of the low members of each module whose Groebner basis some elements are
+-- Source: Gröbner bases of submodules, reduced bases and Buchberger's criterion as in Using Algebraic Geometry of Cox, Little and O'Shea.
 use Rattle.std.specs.Prelude.{◌≡◌, ◌≢◌, ℕ, ◌<◌, Bool, if◌then◌else◌, false, length, get_or, List, [], ◌∷◌}
 use Rattle.std.specs.List.{All, Contains}
 use Rattle.std.specs.declared.cmp.Ordering.{Ordering}

@@ -9,6 +9,7 @@
 --     TakesFirst                   the first pair is taken, and what follows
 --     RunsFrom                     the run goes on from a state and ends so
 --     RunsTo                       the run of the generators with this budget ends so
+-- Source: Buchberger's algorithm for submodules as in Using Algebraic Geometry of Cox, Little and O'Shea.
 use Rattle.std.specs.Prelude.{◌≡◌, ℕ, zero, suc, ◌+◌, ◌-◌, Bool, false, ◌||◌, if◌then◌else◌, nat_eq, nat_lt, sum, ◌<◌, ◌⊎◌, Option, Some, None, length, get_or, List, [], ◌∷◌, ◌++◌}
 use Rattle.std.specs.List.{All, Contains}
 use Rattle.std.specs.declared.cmp.Ordering.{Ordering}

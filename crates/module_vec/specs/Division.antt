@@ -12,6 +12,7 @@
 -- A division looks at the lead of what is left. The first vector of the list whose lead divides it is
 -- subtracted in the fitting multiple, or the division is over-degree where this multiple has a term of degree
 -- above the limit. Where there is no such vector, the lead moves to the remainder.
+-- Source: the division algorithm for free modules and S-vectors as in Using Algebraic Geometry of Cox, Little and O'Shea.
 use Rattle.std.specs.Prelude.{◌≡◌, ℕ, zero, suc, ◌+◌, Bool, false, ◌||◌, if◌then◌else◌, nat_lt, sum, Option, Some, None, List, [], ◌∷◌, ◌++◌}
 use Rattle.std.specs.declared.cmp.Ordering.{Ordering}
 use Rattle.ibp_field.specs.Arithmetic.{neg_mod, inverse_mod}

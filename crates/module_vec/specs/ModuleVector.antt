@@ -11,6 +11,7 @@
 --     IsSubmodule variables Member     the vectors of the set Member are a submodule
 --     IsLow high v                     each component of v is low
 --     HasDivisor list t                the lead of a vector of the list divides the term t
+-- Source: free modules and their submodules as in Using Algebraic Geometry of Cox, Little and O'Shea.
 use Rattle.std.specs.Prelude.{◌≡◌, ℕ, Bool, if◌then◌else◌, nat_eq, true, false, length, List, [], ◌∷◌, ◌++◌}
 use Rattle.std.specs.List.{Contains}
 use Rattle.std.specs.declared.cmp.Ordering.{Ordering}

@@ -1,6 +1,7 @@
 -- What is answered for a family.
 --     fault_in              the fault of a sector by its outcome, where it isn't worked
 --     IsAnswer              a system is the family's, and a fault is the family's
+-- Source: of our own; budgets are the family's, and the literature has none.
 use Rattle.std.specs.Prelude.{Option, None, Some, Result, Ok, Err}
 use Rattle.sector_lattice.specs.declared.sector.Sector.{Sector}
 use Rattle.family_file.specs.Family.{FamilyData}

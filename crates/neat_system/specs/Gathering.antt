@@ -8,6 +8,7 @@
 --     Gathers                   the works of these pieces are gathered, each in turn
 --     IsFirstFault              the fault of the first piece that has one
 --     Writes                    a system of what is gathered
+-- Source: lists joined in sector order, as NeatIBP of Wu, Böhm, Ma, Xu and Zhang does it.
 use Rattle.std.specs.Prelude.{◌≡◌, ℕ, ◌<◌, Option, None, Some, List, [], ◌∷◌, ◌++◌, map, length, slice_index_or}
 use Rattle.std.specs.List.{AllZip}
 use Rattle.ibp_algebra.specs.FormalSum.{FormalSum}

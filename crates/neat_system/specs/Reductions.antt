@@ -2,6 +2,7 @@
 --     declared_row             the row of a declared target, which is empty where its sector is zero
 --     number_of                the number of a written candidate, from 1 on in candidate order
 --     reductions_of            each target with its reduced form and its weights over these numbers
+-- Source: linear algebra; targets and their reduced forms as in Laporta's algorithm.
 use Rattle.std.specs.Prelude.{ℕ, ◌+◌, nat_lt, if◌then◌else◌, List, [], ◌∷◌, count_by}
 use Rattle.ibp_algebra.specs.FormalSum.{FormalSum, map_keys}
 use Rattle.sparse_rows.specs.Rows.{IntegralSum, is_zero_integral}

@@ -1,6 +1,7 @@
 -- A relay whose sectors are worked one after another.
 --     IsUnderWay       the relay of this family is the replay of its journal, and no sector is held
 --     Advances         one more sector is done
+-- Source: sectors worked from the larger to the smaller as in Laporta's algorithm.
 use Rattle.std.specs.Prelude.{◌≡◌, ◌+◌, [], length}
 use Rattle.family_file.specs.declared.family.Family.{Family}
 use Rattle.relay_core.specs.Relay.{Replays}

@@ -12,6 +12,7 @@
 --     IsSystem                 the system
 --     IsWorkedOut              a sector that is worked for its book
 --     IsFault                  the first reached sector in sector order that isn't worked, with its outcome
+-- Source: systems of relations whose propagator powers do not rise, sector by sector, as in NeatIBP of Wu, Böhm, Ma, Xu and Zhang.
 use Rattle.std.specs.Prelude.{◌≡◌, ◌↔◌, ℕ, List, [], map, length, slice_index_or, Contains}
 use Rattle.std.specs.List.{All, flat_map}
 use Rattle.std.specs.List.Sorted.{IsStrictlySortedBy}

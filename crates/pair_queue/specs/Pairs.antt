@@ -1,6 +1,7 @@
 -- Pairs of elements of a run, in the order in which the run takes them.
 --     compare_pairs                by the least common multiple, then by the second number, then by the first
 --     insert_pair, insert_pairs    a pair is put at its place in a list in this order;  and pairs in turn
+-- Source: the normal strategy of Buchberger, which takes the pair with the least common multiple of leads that is least.
 use Rattle.std.specs.Prelude.{if◌then◌else◌, List, [], ◌∷◌}
 use Rattle.std.specs.Cmp.{IsTotalOrder, on_total, then_total, nat_cmp_total}
 use Rattle.std.specs.Ordering.{nat_cmp, ordering_then, is_lt}

@@ -6,6 +6,7 @@
 --     IsWritten order candidates targets k  k is needed for some target
 --     IsPick ..                             which candidates are written, and the answer for each target
 --     DependsOn .. Places target j          without candidate j the reduced form of the target by those at Places changes
+-- Source: linear algebra; NeatIBP of Wu, Böhm, Ma, Xu and Zhang picks its relations so over a finite field.
 use Rattle.std.specs.Prelude.{◌≢◌, ◌↔◌, ℕ, ◌<◌, List, [], ◌∷◌, ◌++◌, length, Any, Contains}
 use Rattle.std.specs.List.Sorted.{IsStrictlyIncreasing}
 use Rattle.std.specs.Ordering.{nat_cmp}

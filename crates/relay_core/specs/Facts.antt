@@ -1,4 +1,5 @@
 -- What holds after any legal events.
+-- Source: textbook invariants of a state machine.
 use Rattle.std.specs.Prelude.{◌≡◌, ◌≢◌, ◌⊎◌, ℕ, None, List, [], Contains}
 use Rattle.sector_lattice.specs.declared.integral.Integral.{Integral}
 use Rattle.relay_core.specs.declared.event.Event.{Event}

@@ -1,4 +1,5 @@
 -- Families of sets of integrals, one set for each sector, and the equation of a plan.
+-- Source: sectors reduced from the larger to the smaller as in Laporta's algorithm; the equation is textbook recursion down a finite order.
 use Rattle.std.specs.Prelude.{◌≡◌, ◌≢◌, ◌⊎◌, ◌↔◌, ℕ, ◌≤◌, ◌==◌, Option, None, Some, List, [], ◌∷◌, Contains, filter, length}
 use Rattle.std.specs.declared.cmp.Ordering.{Ordering}
 use Rattle.std.specs.List.Sorted.{IsStrictlySortedBy}

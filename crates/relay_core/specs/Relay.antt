@@ -1,4 +1,5 @@
 -- The relay as a machine over events. A list of events is replayed from an opening state.
+-- Source: textbook state machines, whose state is the replay of a list of events.
 use Rattle.std.specs.Prelude.{◌≡◌, ◌≢◌, ℕ, ◌≤◌, ◌==◌, not, if◌then◌else◌, Option, None, Some, List, [], ◌∷◌, ◌++◌, Contains, Bool, true, false, count_by, filter, length, slice_range}
 use Rattle.std.specs.declared.cmp.Ordering.TheVariants.{Less}
 use Rattle.sector_lattice.specs.declared.integral.Integral.{Integral}

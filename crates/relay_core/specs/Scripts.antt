@@ -1,5 +1,6 @@
 -- The small plans of the test scripts. A plan is its number of powers. With two powers it opens with one target in each of the
 -- sectors 3, 1 and 2, and nothing has tails. With one power it opens with [2], and the sector 1 hands [0] down.
+-- Source: examples of our own.
 use Rattle.std.specs.Prelude.{◌≡◌, ℕ, ◌==◌, if◌then◌else◌, pos, List, [], ◌∷◌, filter, length}
 use Rattle.sector_lattice.specs.declared.integral.Integral.{Integral}
 use Rattle.relay_core.specs.Family.{Opening}

@@ -1,4 +1,5 @@
 -- A relay as its callers see it, and what its calls do.
+-- Source: textbook state machines, whose calls are their steps.
 use Rattle.std.specs.Prelude.{◌≡◌, ◌≢◌, ◌⊎◌, ℕ, ◌≤◌, Bool, true, false, Result, Ok, Err, List, [], ◌∷◌, ◌++◌, map, Contains, length, insert, slice_range, ◌<◌}
 use Rattle.sector_lattice.specs.declared.integral.Integral.{Integral}
 use Rattle.relay_core.specs.declared.event.Event.{Event}

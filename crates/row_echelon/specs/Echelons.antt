@@ -5,6 +5,7 @@
 --     AreIndependent kept       only weights that are zero give zero
 --     IsBelow kept n            each kept row has a number below n
 --     Inserts old new row n i   what `insert` does
+-- Source: linear algebra: Gauss's elimination, which Laporta's algorithm does with the highest integrals first.
 use Rattle.std.specs.Prelude.{◌≡◌, ℕ, ◌<◌, List, [], ◌∷◌, ◌++◌, map, All, Contains, ◌==◌, if◌then◌else◌}
 use Rattle.std.specs.Ordering.{nat_cmp}
 use Rattle.std.specs.declared.cmp.Ordering.{Ordering}

@@ -1,4 +1,5 @@
 -- The proper supersectors one after the other: more lines first, and of as many lines the greater number first.
+-- Source: supersectors as in Laporta's algorithm; subsets by their binary digits as in textbooks.
 use Rattle.std.specs.Prelude.{ℕ, ◌+◌, ◌-◌, ◌^◌, Bool, not, ◌&&◌, if◌then◌else◌, ◌==◌, List, [], ◌∷◌, bit_and, count_ones}
 use Rattle.sector_lattice.specs.Layers.{joined}
 

@@ -1,4 +1,5 @@
 -- The integrals of a sector with exactly so many dots and exactly so much rank, one place after the other.
+-- Source: the seeds of Laporta's algorithm; lists with a given sum as in textbooks.
 use Rattle.std.specs.Prelude.{ℕ, zero, suc, ◌+◌, ◌-◌, ◌/◌, ◌%◌, ℤ, pos, neg_ℤ, Bool, if◌then◌else◌, ◌==◌, List, [], ◌∷◌, ◌++◌, map}
 
 -- the lists of the numbers below a bound, joined in their order

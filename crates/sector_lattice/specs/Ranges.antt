@@ -1,4 +1,5 @@
 -- The powers that an integral may have: from one to nine, each from -600 to 600.
+-- Source: limits of our own.
 use Rattle.std.specs.Prelude.{◌≤◌, ◌≤ℤ◌, neg_ℤ, length, All, ℤ, List}
 use Rattle.sector_lattice.specs.declared.integral.TheConstants.{LINES, POWER}
 

@@ -1,4 +1,5 @@
 -- The seeds of a sector, and how many there are.
+-- Source: the seeds of Laporta's algorithm; their number is a textbook count of lists with a given sum.
 use Rattle.std.specs.Prelude.{◌≡◌, ◌≤◌, length, ℕ, ℤ, ◌+◌, ◌-◌, ◌*◌, zero, suc, List, Contains, ◌↔◌, count_ones}
 use Rattle.sector_lattice.specs.Sectors.{sector_of, dots_of, rank_of, Ascends}
 

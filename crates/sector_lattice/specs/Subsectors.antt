@@ -2,6 +2,7 @@
 --     is_subsector inner outer            whether each member of the one sector is a member of the other
 --     is_subsector_of_any sector listed   whether the sector is a subsector of a listed one
 --     IsListedSubsector sector listed     there is a listed sector that has each member of the sector
+-- Source: subsectors as in Laporta's algorithm; subsets by their binary digits as in textbooks.
 use Rattle.std.specs.Prelude.{ℕ, Bool, List, ◌==◌, bit_and}
 use Rattle.std.specs.List.{Any, list_any}
 use Rattle.sector_lattice.specs.declared.sector.Sector.{Sector}

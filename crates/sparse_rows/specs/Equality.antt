@@ -1,4 +1,5 @@
 -- Rows have the same terms exactly where they are equal.
+-- Source: linear algebra.
 use Rattle.std.specs.Prelude.{◌≡◌, ℕ, ℤ, List, ◌==◌, ◌&&◌}
 use Rattle.std.specs.Ordering.{eq_by_cmp}
 use Rattle.std.specs.Bool.{Decides}

@@ -3,6 +3,7 @@
 --     SameRow f g                       each integral has the same coefficient in both
 --     is_zero_integral zero integral    whether the integral's sector is a subsector of a listed one
 --     same_terms f g                    whether the two have the same terms in the same order
+-- Source: linear algebra; rows of integrals, highest first, as in Laporta's algorithm.
 use Rattle.std.specs.Prelude.{ℕ, ℤ, Bool, List, ◌==◌, ◌&&◌}
 use Rattle.std.specs.Ordering.{eq_by_cmp}
 use Rattle.std.specs.Cmp.Lexicographic.{pointwise}

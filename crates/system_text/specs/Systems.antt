@@ -8,6 +8,7 @@
 --                             weights 1:2147483645 2:1073741823
 --     system_text system      the family's name, the blocks, the numbered relations and the reductions,
 --                             with the number of each in front of them
+-- Source: formats of our own.
 use Rattle.std.specs.Prelude.{ℕ, List, [], ◌∷◌, ◌++◌, length, codes, decimal}
 use Rattle.std.specs.List.{flat_map, enumerate_from}
 use Rattle.family_file.specs.declared.parts.StrippedField.{StrippedField}

@@ -3,6 +3,7 @@
 --     poly_text p            1*z1^2*z3 + 5, or 0
 --     integral_text powers   [2,-1]
 --     row_text row           3*I[2,1] 5*I[1,1], or 0
+-- Source: formats of our own, which write polynomials and integrals as they are printed in the field.
 use Rattle.std.specs.Prelude.{ℕ, suc, ℤ, List, [], ◌∷◌, ◌++◌, ◌==◌, codes, decimal, if◌then◌else◌}
 use Rattle.std.specs.Fmt.{signed_decimal}
 use Rattle.std.specs.List.{flat_map}
