@@ -275,23 +275,48 @@ mod tests {
         Ok(poly)
     }
 
+    // the terms of z1^2 - 1
+    fn difference_of_squares() -> Result<[(Monomial, Residue); 2], Fail> {
+        let square = Monomial::from_exponents([2, 0, 0, 0, 0, 0, 0, 0, 0]).ok_or("degree over")?;
+        Ok([
+            (square, Residue::one()),
+            (Monomial::one(), Residue::of(2147483646)),
+        ])
+    }
+
     #[test]
     fn binomials_are_added_and_multiplied(rt: HostRuntime) -> Result<(), Fail> {
         is_shared::<Poly>();
         let alloc = rt.alloc();
+        let z1 = Monomial::variable(1);
+        let one = Monomial::one();
         let p = linear(alloc, 1, 0, 1)?;
         let q = linear(alloc, 1, 0, -1)?;
-        assert_eq!(rt; p.terms().len(), 2);
-        let terms = [
-            (Monomial::variable(1), Residue::one()),
-            (Monomial::one(), Residue::one()),
-        ];
-        assert!(rt; p.terms() == terms.as_slice());
-        assert!(rt; p.add(alloc, &q)? == linear(alloc, 2, 0, 0)?);
-        let square = power(alloc, [2, 0, 0, 0, 0, 0, 0, 0, 0], 1)?;
-        assert!(rt; p.mul(alloc, &q)? == square.add(alloc, &linear(alloc, 0, 0, 2147483646)?)?);
-        assert!(rt; p.scale(alloc, Residue::of(3))? == linear(alloc, 3, 0, 3)?);
+        assert!(rt; p.terms() == [(z1, Residue::one()), (one, Residue::one())].as_slice());
+        assert!(rt; q.terms() == [(z1, Residue::one()), (one, Residue::of(2147483646))].as_slice());
+        let sum = p.add(alloc, &q)?;
+        assert!(rt; sum.terms() == [(z1, Residue::of(2))].as_slice());
+        let product = p.mul(alloc, &q)?;
+        assert!(rt; product.terms() == difference_of_squares()?.as_slice());
+        let triple = p.scale(alloc, Residue::of(3))?;
+        assert!(rt; triple.terms() == [(z1, Residue::of(3)), (one, Residue::of(3))].as_slice());
         assert!(rt; p.scale(alloc, Residue::zero())? == Poly::zero(alloc));
+        Ok(())
+    }
+
+    #[test]
+    fn copies_and_products_of_small_degree_have_the_same_terms(
+        rt: HostRuntime,
+    ) -> Result<(), Fail> {
+        let alloc = rt.alloc();
+        let binomials = [linear(alloc, 1, 0, 1)?, linear(alloc, 1, 0, -1)?];
+        let [p, q] = &binomials;
+        assert!(rt; p.copy(alloc)? == *p);
+        let copies = copy_polynomials(alloc, &binomials)?;
+        assert!(rt; copies.as_slice() == binomials.as_slice());
+        assert!(rt; p.degree() + q.degree() <= MONO_DEGREE);
+        let product = p.product(alloc, q)?;
+        assert!(rt; product.terms() == difference_of_squares()?.as_slice());
         Ok(())
     }
 
