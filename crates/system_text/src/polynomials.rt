@@ -1,12 +1,12 @@
 // Polynomials.
-ghost use Rattle.std.specs.Prelude.{◌≡◌, ◌++◌, ◌+◌, ◌≤◌, IfOk, OnOk, codes, drop};
+ghost use Rattle.std.specs.Prelude.{◌≡◌, ◌++◌, ◌+◌, IfOk, OnOk, codes};
 ghost use Rattle.std.specs.List.{flat_map};
-ghost use Rattle.system_text.specs.Texts.{joined, power_text, powers_text, monomial_text, poly_term_text, poly_text};
+ghost use Rattle.system_text.specs.Texts.{joined, power_text, monomial_text, poly_term_text, poly_text};
 
 use crate::numbers::{put_bytes, put_residue, put_whole};
 use ibp_base::{List, NoMemory};
 use ibp_field::Residue;
-use mono_order::Monomial;
+use mono_order::{Monomial, VARIABLES};
 use sparse_poly::Poly;
 use std::alloc::Global;
 
@@ -28,7 +28,7 @@ fn put_power(text: &mut Vec<u8>, i: u8, exponent: u16) -> Result<(), NoMemory>
 fn put_monomial(text: &mut Vec<u8>, monomial: &Monomial) -> Result<(), NoMemory>
     ensures { OnOk result (text.new.items ≡ text.old.items ++ monomial_text monomial.now) }
 {
-    for i in 1..10 {
+    for i in 1..VARIABLES as u8 + 1 {
         put_power(text, i, monomial.exponent(i))?;
     }
     Ok(())
@@ -64,6 +64,7 @@ fn put_poly_terms(text: &mut Vec<u8>, terms: &[(Monomial, Residue)]) -> Result<(
     }
 }
 
+/// A polynomial as `print_poly` writes it.
 pub fn put_poly(text: &mut Vec<u8>, poly: &Poly) -> Result<(), NoMemory>
     ensures { OnOk result (text.new.items ≡ text.old.items ++ poly_text poly.now) }
 {
@@ -81,6 +82,7 @@ fn put_more_polys(text: &mut Vec<u8>, polys: &[Poly]) -> Result<(), NoMemory>
     Ok(())
 }
 
+/// Polynomials, with a comma and a space between each two.
 pub fn put_polys(text: &mut Vec<u8>, polys: &[Poly]) -> Result<(), NoMemory>
     ensures { OnOk result (text.new.items ≡ text.old.items
         ++ joined poly_text (codes ", ") polys.now) }
