@@ -9,3 +9,8 @@ pub mod Told
 pub mod Exact
 pub mod OneText
 pub mod Numbers
+pub mod Walks
+pub mod WordSorts
+pub mod WorkersRows
+pub mod WorkersWalks
+pub mod Lists

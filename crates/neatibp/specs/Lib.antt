@@ -2,6 +2,7 @@ pub mod Input
 pub mod Output
 pub mod Program
 pub mod Words
+pub mod WordLists
 pub mod Refusals
 pub mod StatusText
 pub mod Identity

@@ -1,13 +1,21 @@
 //! Laws of the definitions.
 
-ghost use Rattle.std.specs.Prelude.{◌≡◌, Some, ◌∷◌, [], codes};
+ghost use Rattle.std.specs.Prelude.{◌≡◌, ℕ, List, [], ◌∷◌, true, Some, codes};
+ghost use Rattle.std.specs.Str.Parse.{digits_value};
 ghost use Rattle.neatibp.specs.OneText.{OneText};
-ghost use Rattle.neatibp.specs.Words.{command_of};
+ghost use Rattle.neatibp.specs.Words.{command_of, is_number};
+ghost use Rattle.neatibp.specs.WordLists.{listed, without_mark};
 ghost use Rattle.neatibp.specs.declared.words.Command.TheVariants as command;
 
-/// The list of words of each row of the table means its command.
+/// The lists of words of the table are commands, and every list of words means what the table says of it
+/// without its first `--`. So no other list is a command, whatever options it has.
 pub fn lists_are_commands()
-    ensures { command_of (codes "identity" ∷ []) ≡ Some command.Identity }
+    ensures identity { command_of (codes "identity" ∷ []) ≡ Some command.Identity }
+    ensures plain { command_of (codes "plain" ∷ []) ≡ Some command.Plain }
+    ensures basis { (number : List ℕ) → is_number number ≡ true
+        → command_of (codes "basis" ∷ number ∷ []) ≡ Some (command.Basis (digits_value 10 number)) }
+    ensures every_list { (words : List (List ℕ))
+        → command_of words ≡ listed (without_mark words) }
 {}
 
 /// A file determines the text that a command writes of it.

@@ -1,8 +1,14 @@
-use Rattle.std.proofs.Common.{refl}
-use Rattle.clap.proofs.OnLiterals.{clap_on_literals}
-use Rattle.neatibp.specs.Program.{rows_found}
+use Rattle.neatibp.proofs.Lists.{identity_is, plain_is, basis_is, reads_lists}
 use Rattle.neatibp.proofs.laws.lists_are_commands.Goals as goal
 
-pub returns : goal.returns
-unfolding rows_found clap_on_literals
-returns c = refl
+pub returns-clause-identity : goal.returns-clause-identity
+returns-clause-identity c = identity_is
+
+pub returns-clause-plain : goal.returns-clause-plain
+returns-clause-plain c = plain_is
+
+pub returns-clause-basis : goal.returns-clause-basis
+returns-clause-basis c = basis_is
+
+pub returns-clause-every_list : goal.returns-clause-every_list
+returns-clause-every_list c = reads_lists
