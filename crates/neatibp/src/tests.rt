@@ -3,11 +3,14 @@ ghost use Rattle.std.specs.Prelude.{◌≤◌};
 use crate::run::run_calm;
 use crate::status::{Status, status_text};
 use family_file::{Family, FileFault, Need, read_family};
+use ibp_field::Residue;
 use ibp_outside::{MemorySink, MemorySource};
+use poly_text::{Numbers, parse_poly};
 use sector_lattice::Sector;
 use sector_module::{is_member, sector_basis};
 use std::alloc::Global;
 use std::test::Fail;
+use system_text::print_poly;
 
 const TADPOLE: &str = r#"version = 1
 name = "tadpole"
@@ -241,6 +244,192 @@ weights 1:268435456 2:268435456
 end
 ";
 
+const TADPOLE_LISTS: &str = r#"version = 1
+name = "tadpole"
+loops = 1
+legs = 0
+variables = 1
+dimension = 12
+baikov = [[1, 1], [1, 0]]
+zero = [[]]
+targets = [[3]]
+
+[probe]
+field = [[[1, 2], [1, 1]]]
+factor = [[1, 1]]
+seed = [2]
+"#;
+
+const BUBBLE_MASSIVE: &str = r#"version = 1
+name = "bubble_massive"
+loops = 1
+legs = 1
+variables = 2
+dimension = 1234567
+baikov = "4*s*(z1 + m2) - (z2 - z1 - s)^2"
+zero = [[]]
+targets = [[1, 1]]
+
+[numbers]
+s = 7
+m2 = 3
+
+[probe]
+field = ["2*z1*(z2 - s + m2)", "(z1 + z2 + 2*m2 - s)*(z2 - s) - 2*m2*(z2 - z1 + s)"]
+factor = "2*(z2 - s)"
+seed = [2, 0]
+"#;
+
+const BUBBLE_MASSIVE_ROW: &str = "1234564*I[2,-1] 2138841693*I[2,0] 1*I[1,0]\n";
+
+// The run of its sector 3 steps from z1^14 down to z1, and multiplies by z2^20 at each step.
+const SPIRAL: &str = r#"version = 1
+name = "spiral"
+loops = 1
+legs = 2
+variables = 3
+dimension = 12
+baikov = "z3*(1 - z1*z2^20) + z1^14"
+targets = [[0, 0, 0], [1, 1, 0]]
+"#;
+
+// A file in which one text stands for another, with what `identity` answers and writes.
+const IDENTITIES: [(&str, &str, &str, Status, &str); 8] = [
+    (TADPOLE, "", "", Status::Done, TADPOLE_ROW),
+    (TADPOLE_LISTS, "", "", Status::Done, TADPOLE_ROW),
+    (
+        TADPOLE,
+        "\"z1 + 1\"",
+        "[[1, 1], [1, 0]]",
+        Status::Done,
+        TADPOLE_ROW,
+    ),
+    (
+        TADPOLE,
+        "field = [\"z1^2 + z1\"]\nfactor = \"z1\"",
+        "field = [[[1, 2], [1, 1]]]\nfactor = [[1, 1]]",
+        Status::Done,
+        TADPOLE_ROW,
+    ),
+    (PLANE, "", "", Status::Done, "9*I[1,-1] 1*I[1,0]\n"),
+    (BUBBLE_MASSIVE, "", "", Status::Done, BUBBLE_MASSIVE_ROW),
+    (TADPOLE, "z1^2 + z1", "z1 + 1", Status::NotDivisible(1), ""),
+    (
+        TADPOLE,
+        "factor = \"z1\"",
+        "factor = \"2*z1\"",
+        Status::NotTangent,
+        "",
+    ),
+];
+
+// A file in which one text stands for another, with its first fault.
+const FAULTS: [(&str, &str, &str, FileFault); 14] = [
+    (TADPOLE, "loops = 1\n", "", FileFault::Keys),
+    (
+        TADPOLE,
+        "version = 1",
+        "version = 1\ncolour = 1",
+        FileFault::Keys,
+    ),
+    (TADPOLE, "version = 1", "version = 2", FileFault::Header),
+    (BUBBLE, "variables = 2", "variables = 3", FileFault::Shape),
+    (
+        TADPOLE,
+        "dimension = 12",
+        "dimension = \"1/0\"",
+        FileFault::Number,
+    ),
+    (
+        BUBBLE,
+        "[numbers]\ns = 1",
+        "[numbers]\nz1 = 1",
+        FileFault::Number,
+    ),
+    (TADPOLE, "\"z1 + 1\"", "\"z1 + q\"", FileFault::Baikov),
+    (TADPOLE, "\"z1 + 1\"", "[[1, 25]]", FileFault::Baikov),
+    (
+        TADPOLE,
+        "\"z1 + 1\"",
+        "\"2147483647*z1\"",
+        FileFault::ZeroBaikov,
+    ),
+    (TADPOLE, "[[]]", "[[2]]", FileFault::ZeroSectors),
+    (TADPOLE, "[[3]]", "[[31]]", FileFault::Targets),
+    (
+        TADPOLE,
+        "[probe]",
+        "[bounds]\ndots_cap = 21\n\n[probe]",
+        FileFault::Limits,
+    ),
+    (
+        TADPOLE,
+        "[probe]",
+        "[budget]\ncandidates = 20001\n\n[probe]",
+        FileFault::Budget,
+    ),
+    (TADPOLE, TADPOLE, "", FileFault::Keys),
+];
+
+// Words that are no command, or one that is not built yet.
+const OTHER_WORDS: [&[&str]; 25] = [
+    &[],
+    &["plain", "1"],
+    &["plain", "--workers", "2"],
+    &["basis"],
+    &["basis", "x"],
+    &["basis", "10000"],
+    &["basis", ""],
+    &["basis", "+1"],
+    &["basis", "1", "2"],
+    &["basis", "1", "--workers", "1"],
+    &["system"],
+    &["system", "--workers"],
+    &["system", "--workers", "0"],
+    &["system", "--workers", "2"],
+    &["system", "--workers", "65"],
+    &["system", "--workers", "2", "--workers", "2"],
+    &["--workers=4", "system"],
+    &["drill", "0"],
+    &["Plain"],
+    &["identity", "1"],
+    &["identity", "--workers", "1"],
+    &["identity", "identity"],
+    &["--help"],
+    &["--"],
+    &["--", "--", "identity"],
+];
+
+// The end of the options may stand anywhere in a list of words, once.
+const MARKED_WORDS: [(&[&str], &str); 5] = [
+    (&["--", "identity"], TADPOLE_ROW),
+    (&["identity", "--"], TADPOLE_ROW),
+    (&["--", "basis", "1"], TADPOLE_BLOCK),
+    (&["basis", "--", "1"], TADPOLE_BLOCK),
+    (&["basis", "1", "--"], TADPOLE_BLOCK),
+];
+
+const USAGE: &str = "usage: neatibp identity | basis N | plain | system --workers W | drill N";
+
+// Each status with its exit status and its message.
+const STATUSES: [(Status, u8, &str); 11] = [
+    (Status::Done, 0, ""),
+    (Status::Usage, 2, USAGE),
+    (Status::ReadFault, 3, "read fault"),
+    (Status::File(FileFault::Targets), 4, "file fault F10"),
+    (Status::NotDivisible(1), 5, "not divisible z1"),
+    (Status::NotTangent, 5, "not tangent"),
+    (Status::PairsSpent(Sector(2)), 6, "pairs spent in sector 2"),
+    (Status::DegreeOver(Sector(3)), 7, "degree over in sector 3"),
+    (
+        Status::CandidatesOver(Sector(511)),
+        8,
+        "candidates over in sector 511",
+    ),
+    (Status::WriteFault, 9, "write fault"),
+    (Status::NoMemory, 10, "no memory"),
+];
+
 // How a run ended, and what the sink took.
 #[derive(Drop)]
 struct Ran {
@@ -281,36 +470,8 @@ fn run_with(alloc: Global, words: &[&str], file: &str, old: &str, new: &str) -> 
 
 #[test]
 fn identity_writes_the_row_or_refuses_the_probe(rt: HostRuntime) -> Result<(), Fail> {
-    let alloc = rt.alloc();
-    let lists = "field = [[[1, 2], [1, 1]]]\nfactor = [[1, 1]]";
-    let cases = [
-        (TADPOLE, "", "", Status::Done, TADPOLE_ROW),
-        (
-            TADPOLE,
-            "\"z1 + 1\"",
-            "[[1, 1], [1, 0]]",
-            Status::Done,
-            TADPOLE_ROW,
-        ),
-        (
-            TADPOLE,
-            "field = [\"z1^2 + z1\"]\nfactor = \"z1\"",
-            lists,
-            Status::Done,
-            TADPOLE_ROW,
-        ),
-        (PLANE, "", "", Status::Done, "9*I[1,-1] 1*I[1,0]\n"),
-        (TADPOLE, "z1^2 + z1", "z1 + 1", Status::NotDivisible(1), ""),
-        (
-            TADPOLE,
-            "factor = \"z1\"",
-            "factor = \"2*z1\"",
-            Status::NotTangent,
-            "",
-        ),
-    ];
-    for (file, old, new, status, text) in cases {
-        let ran = run_with(alloc, &["identity"], file, old, new)?;
+    for (file, old, new, status, text) in IDENTITIES {
+        let ran = run_with(rt.alloc(), &["identity"], file, old, new)?;
         assert_eq!(rt; ran.status, status, "at {new}");
         assert_eq!(rt; ran.taken.as_slice(), text.as_bytes(), "at {new}");
     }
@@ -476,55 +637,20 @@ fn plain_spends_no_more_than_the_budgets(rt: HostRuntime) -> Result<(), Fail> {
 }
 
 #[test]
+fn a_degree_over_the_limit_is_told_with_its_sector(rt: HostRuntime) -> Result<(), Fail> {
+    let commands: [&[&str]; 2] = [&["basis", "3"], &["plain"]];
+    for words in commands {
+        let ran = run_with(rt.alloc(), words, SPIRAL, "", "")?;
+        assert_eq!(rt; ran.status, Status::DegreeOver(Sector(3)), "at {words:?}");
+        assert_eq!(rt; ran.taken.len(), 0);
+    }
+    Ok(())
+}
+
+#[test]
 fn the_first_fault_of_the_file_is_answered(rt: HostRuntime) -> Result<(), Fail> {
     let alloc = rt.alloc();
-    let cases = [
-        (TADPOLE, "loops = 1\n", "", FileFault::Keys),
-        (
-            TADPOLE,
-            "version = 1",
-            "version = 1\ncolour = 1",
-            FileFault::Keys,
-        ),
-        (TADPOLE, "version = 1", "version = 2", FileFault::Header),
-        (BUBBLE, "variables = 2", "variables = 3", FileFault::Shape),
-        (
-            TADPOLE,
-            "dimension = 12",
-            "dimension = \"1/0\"",
-            FileFault::Number,
-        ),
-        (
-            BUBBLE,
-            "[numbers]\ns = 1",
-            "[numbers]\nz1 = 1",
-            FileFault::Number,
-        ),
-        (TADPOLE, "\"z1 + 1\"", "\"z1 + q\"", FileFault::Baikov),
-        (TADPOLE, "\"z1 + 1\"", "[[1, 25]]", FileFault::Baikov),
-        (
-            TADPOLE,
-            "\"z1 + 1\"",
-            "\"2147483647*z1\"",
-            FileFault::ZeroBaikov,
-        ),
-        (TADPOLE, "[[]]", "[[2]]", FileFault::ZeroSectors),
-        (TADPOLE, "[[3]]", "[[31]]", FileFault::Targets),
-        (
-            TADPOLE,
-            "[probe]",
-            "[bounds]\ndots_cap = 21\n\n[probe]",
-            FileFault::Limits,
-        ),
-        (
-            TADPOLE,
-            "[probe]",
-            "[budget]\ncandidates = 20001\n\n[probe]",
-            FileFault::Budget,
-        ),
-        (TADPOLE, TADPOLE, "", FileFault::Keys),
-    ];
-    for (file, old, new, fault) in cases {
+    for (file, old, new, fault) in FAULTS {
         for word in ["identity", "plain"] {
             let ran = run_with(alloc, &[word], file, old, new)?;
             assert_eq!(rt; ran.status, Status::File(fault), "at {new}");
@@ -540,20 +666,22 @@ fn the_first_fault_of_the_file_is_answered(rt: HostRuntime) -> Result<(), Fail> 
 #[test]
 fn the_bytes_decide_what_is_a_file(rt: HostRuntime) -> Result<(), Fail> {
     let alloc = rt.alloc();
-    let cases = [
-        (1_048_577, Status::File(FileFault::TooLong)),
-        (1_048_576, Status::Done),
-    ];
-    for word in ["identity", "plain"] {
+    let whole = format!(in alloc; "{TADPOLE_HEAD}{TADPOLE_REST}")?;
+    for (word, text) in [("identity", TADPOLE_ROW), ("plain", whole.as_str())] {
         let mut bytes = vec![in alloc; 255]?;
         bytes.extend_from_slice(TADPOLE.as_bytes())?;
         let ran = run(alloc, &[word], bytes, 4096, &[], &[])?;
         assert_eq!(rt; ran.status, Status::File(FileFault::NotToml));
-        for (len, status) in cases {
+        let cases = [
+            (1_048_577, Status::File(FileFault::TooLong), ""),
+            (1_048_576, Status::Done, text),
+        ];
+        for (len, status, text) in cases {
             let mut bytes = Vec::from_slice(alloc, TADPOLE.as_bytes())?;
             bytes.resize(len, b'#')?;
             let ran = run(alloc, &[word], bytes, 4096, &[], &[])?;
-            assert_eq!(rt; ran.status, status);
+            assert_eq!(rt; ran.status, status, "at {len}");
+            assert_eq!(rt; ran.taken.as_slice(), text.as_bytes(), "at {len}");
         }
     }
     Ok(())
@@ -597,26 +725,7 @@ fn plain_reads_and_writes_in_pieces(rt: HostRuntime) -> Result<(), Fail> {
 #[test]
 fn other_words_are_usage(rt: HostRuntime) -> Result<(), Fail> {
     let alloc = rt.alloc();
-    let cases: [&[&str]; 17] = [
-        &[],
-        &["plain", "1"],
-        &["plain", "--workers", "2"],
-        &["basis"],
-        &["basis", "x"],
-        &["basis", "10000"],
-        &["basis", ""],
-        &["basis", "+1"],
-        &["basis", "1", "--workers", "1"],
-        &["system"],
-        &["system", "--workers", "0"],
-        &["system", "--workers", "65"],
-        &["Plain"],
-        &["identity", "1"],
-        &["identity", "--workers", "1"],
-        &["--help"],
-        &["identity", "identity"],
-    ];
-    for words in cases {
+    for words in OTHER_WORDS {
         let bytes = Vec::from_slice(alloc, TADPOLE.as_bytes())?;
         let ran = run(alloc, words, bytes, 1, &[1], &[1])?;
         assert_eq!(rt; ran.status, Status::Usage, "at {words:?}");
@@ -626,29 +735,32 @@ fn other_words_are_usage(rt: HostRuntime) -> Result<(), Fail> {
 }
 
 #[test]
+fn the_end_of_the_options_is_no_word(rt: HostRuntime) -> Result<(), Fail> {
+    for (words, text) in MARKED_WORDS {
+        let ran = run_with(rt.alloc(), words, TADPOLE, "", "")?;
+        assert_eq!(rt; ran.status, Status::Done, "at {words:?}");
+        assert_eq!(rt; ran.taken.as_slice(), text.as_bytes(), "at {words:?}");
+    }
+    Ok(())
+}
+
+#[test]
 fn each_status_has_its_message_and_code(rt: HostRuntime) {
-    let usage = "usage: neatibp identity | basis N | plain | system --workers W | drill N";
-    let cases = [
-        (Status::Done, 0, ""),
-        (Status::Usage, 2, usage),
-        (Status::ReadFault, 3, "read fault"),
-        (Status::File(FileFault::Targets), 4, "file fault F10"),
-        (Status::NotDivisible(1), 5, "not divisible z1"),
-        (Status::NotTangent, 5, "not tangent"),
-        (Status::PairsSpent(Sector(2)), 6, "pairs spent in sector 2"),
-        (Status::DegreeOver(Sector(3)), 7, "degree over in sector 3"),
-        (
-            Status::CandidatesOver(Sector(511)),
-            8,
-            "candidates over in sector 511",
-        ),
-        (Status::WriteFault, 9, "write fault"),
-        (Status::NoMemory, 10, "no memory"),
-    ];
     let mut buffer = [0; 128];
-    for (status, code, text) in cases {
+    for (status, code, text) in STATUSES {
         let len = status_text(&status, &mut buffer);
         assert_eq!(rt; &buffer[..len], text.as_bytes());
         assert_eq!(rt; status.code(), code);
     }
+}
+
+#[test]
+fn a_polynomial_text_is_written_term_by_term(rt: HostRuntime) -> Result<(), Fail> {
+    let alloc = rt.alloc();
+    let mut numbers = Numbers::empty(alloc);
+    numbers.insert("s", Residue::one())?;
+    let poly = parse_poly(alloc, "4*s*z1 - (z2 - z1 - s)^2", 2, &numbers)?;
+    let text = "2147483646*z1^2 + 2*z1*z2 + 2147483646*z2^2 + 2*z1 + 2*z2 + 2147483646";
+    assert_eq!(rt; print_poly(alloc, &poly)?.as_slice(), text.as_bytes());
+    Ok(())
 }
