@@ -85,7 +85,8 @@ fn need_of(command: Command) -> Need
     }
 }
 
-/// The text that a command writes of a file.
+/// The text that a command writes of a file: a row on a line, the block of a sector, or a system. It is made
+/// whole, so that a refusal comes before the first byte is written.
 pub fn text_of(alloc: Global, command: Command, bytes: &[u8]) -> Result<Vec<u8>, Refusal>
     ensures { Answers command (family_of (need_of command) bytes.now) result }
 {

@@ -11,11 +11,13 @@ use module_basis::BasisFault;
 use neat_system::SystemFault;
 use sector_lattice::Sector;
 
+/// Why a command writes no text of a file: what the calls of the crates below answer, with the sector that
+/// it concerns.
 #[derive(Clone, Copy, Debug, PartialEq, Eq)]
 pub enum Refusal {
-    /// The file has a fault.
+    /// The file has a fault, the first of F1 to F14 that holds.
     File(FileFault),
-    /// The variable of this number does not divide its polynomial of the probe's field.
+    /// The variable of this number, counted from 1, does not divide its polynomial of the probe's field.
     NotDivisible(u8),
     /// The probe's field is not tangent.
     NotTangent,
@@ -25,6 +27,7 @@ pub enum Refusal {
     DegreeOver(Sector),
     /// The sector has more candidates than the family allows.
     CandidatesOver(Sector),
+    /// Memory ran out.
     NoMemory,
 }
 

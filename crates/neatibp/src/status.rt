@@ -35,6 +35,7 @@ pub enum Status {
     CandidatesOver(Sector),
     /// The sink failed.
     WriteFault,
+    /// Memory ran out before the first byte was written.
     NoMemory,
 }
 
@@ -77,7 +78,7 @@ impl From<Refusal> for Status {
 }
 
 impl Status {
-    /// The exit status.
+    /// The exit status: 0 for `Done`, and from 2 to 10 for a refusal. 1 is none of the tool's.
     pub fn code(&self) -> u8
         ensures { result ≡ code_of self.now }
     {

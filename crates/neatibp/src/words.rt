@@ -27,7 +27,9 @@ pub enum Command {
 /// Why the words are no command.
 #[derive(Clone, Copy, Debug, PartialEq, Eq)]
 pub enum WordsFault {
+    /// They are not in the table of words, or name a command that is not built yet.
     Usage,
+    /// Memory ran out before they were read.
     NoMemory,
 }
 
