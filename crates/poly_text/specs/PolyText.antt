@@ -1,6 +1,7 @@
 -- What a polynomial text stands for: the value of its tree, or its first fault. Faults of form come before
 -- those of values.
 --     NumbersValue              a finite map from names to numbers;  value_in numbers name    what it has at a name
+--     is_number_name word       whether numbers may have this name
 --     names_of n number word    what a name stands for, where the variables are z1 to zn
 --     is_known n number word    it stands for something
 --     text_answer n number bytes     the polynomial of a text, as its canonical list of terms, or its fault
@@ -15,7 +16,7 @@ use Rattle.std.specs.FinMap as map
 use Rattle.ibp_algebra.specs.Polynomial.{Polynomial}
 use Rattle.poly_text.specs.declared.fault.TextFault.{TextFault}
 use Rattle.poly_text.specs.declared.limits.TheConstants.{NAME_LIMIT}
-use Rattle.poly_text.specs.Token.{whole_value, tokens}
+use Rattle.poly_text.specs.Token.{is_initial, is_word, whole_value, tokens}
 use Rattle.poly_text.specs.Tree.{Tree}
 use Rattle.poly_text.specs.Grammar.{tree_of}
 use Rattle.poly_text.specs.Value.{constant, constant_term, variable, value}
@@ -30,6 +31,15 @@ value_in numbers name = map.get numbers name
 abbrev pub is_variable_name : List ℕ → Bool
 is_variable_name [] = false
 is_variable_name (b ∷ digits) = b == 122 && not (length digits == 0) && list_all is_ascii_digit digits
+
+-- a letter or `_`, then letters, digits and `_`, within the limit
+abbrev pub is_name : List ℕ → Bool
+is_name [] = false
+is_name (b ∷ bytes) = is_initial b && list_all is_word bytes && nat_le (length (b ∷ bytes)) NAME_LIMIT
+
+-- a name that is not that of a variable
+abbrev pub is_number_name : List ℕ → Bool
+is_number_name word = is_name word && not (is_variable_name word)
 
 -- the variable that a name of this form stands for
 abbrev pub variable_named : ℕ → List ℕ → Option Polynomial

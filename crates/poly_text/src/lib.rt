@@ -17,6 +17,7 @@ pub use fault::TextFault;
 pub use limits::{DEGREE_LIMIT, DEPTH_LIMIT, NAME_LIMIT, POWER_LIMIT, TERM_LIMIT};
 pub use numbers::Numbers;
 pub use parse::{parse_number, parse_poly};
+pub use scan::is_number_name;
 
 #[cfg(test)]
 mod tests;

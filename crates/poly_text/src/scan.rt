@@ -5,7 +5,7 @@ ghost use Rattle.std.specs.Char.{is_ascii_digit};
 ghost use Rattle.std.specs.List.{prefix_len, list_all};
 ghost use Rattle.mono_order.specs.declared.limits.TheConstants.{VARIABLES};
 ghost use Rattle.poly_text.specs.Token.{is_blank, is_initial, is_word, whole_value, further_bytes, token_of};
-ghost use Rattle.poly_text.specs.PolyText.{value_in, is_variable_name};
+ghost use Rattle.poly_text.specs.PolyText.{value_in, is_variable_name, is_name, is_number_name};
 ghost use Rattle.poly_text.specs.Symbols.{limited, named_variable, named, symbol_for};
 
 use crate::limits::NAME_LIMIT;
@@ -96,6 +96,31 @@ fn is_variable_name(word: &[u8]) -> bool
         Some((first, digits)) => *first == b'z' && !digits.is_empty() && all_digits(digits),
         None => false,
     }
+}
+
+fn all_word(bytes: &[u8]) -> bool
+    ensures { result ≡ list_all is_word bytes.now }
+{
+    bytes.iter().all(|byte| is_word(*byte))
+}
+
+fn is_name(word: &[u8]) -> bool
+    ensures { result ≡ is_name word.now }
+{
+    match word.split_first() {
+        Some((first, others)) => {
+            is_initial(*first) && all_word(others) && word.len() <= NAME_LIMIT
+        }
+        None => false,
+    }
+}
+
+/// Whether numbers may have this name: it is a name of at most `NAME_LIMIT` bytes, and not `z` and digits alone,
+/// which is how variables are named.
+pub fn is_number_name(word: &[u8]) -> bool
+    ensures { result ≡ is_number_name word.now }
+{
+    is_name(word) && !is_variable_name(word)
 }
 
 // The variable that a name of this form stands for.

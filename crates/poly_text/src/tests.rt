@@ -38,6 +38,26 @@ fn a_name_has_the_number_that_it_was_given(rt: HostRuntime) -> Result<(), Fail> 
 }
 
 #[test]
+fn numbers_have_names_that_no_variable_has(rt: HostRuntime) {
+    let rows = [
+        ("s", true),
+        ("_a0", true),
+        ("z", true),
+        ("z1b", true),
+        ("abcdefghijklmnopqrstuvwxyz_ABCDE", true),
+        ("abcdefghijklmnopqrstuvwxyz_ABCDEF", false),
+        ("", false),
+        ("0", false),
+        ("a-b", false),
+        ("z1", false),
+        ("z01", false),
+    ];
+    for (name, may_have) in rows {
+        assert_eq!(rt; is_number_name(name.as_bytes()), may_have, "at {name}");
+    }
+}
+
+#[test]
 fn texts_have_their_values(rt: HostRuntime) -> Result<(), Fail> {
     let mut numbers = Numbers::empty(rt.alloc());
     numbers.insert("s", Residue::one())?;
