@@ -24,7 +24,7 @@ use Rattle.family_file.specs.Reading.{collect}
 use Rattle.family_file.specs.Table.{PolynomialData, polynomial_text, term_list, polynomial_of}
 use Rattle.family_file.specs.Numbers.{natural}
 use Rattle.family_file.specs.Document.{HeaderKeys, BodyKeys, BoundsKeys, BudgetKeys, ProbeKeys, DocumentKeys, document_keys}
-use Rattle.family_file.specs.Shapes.{HasVariables, IsPolynomial}
+use Rattle.family_file.specs.Shapes.{HasVariables}
 use Rattle.family_file.specs.Limits.{BoundsWithin, BudgetWithin, IsProbe, FamilyLimits}
 use Rattle.family_file.specs.Arrays.{integer_in, list_in, powers_from, targets_of, zero_sectors_of}
 use Rattle.family_file.specs.Polynomials.{or_fault, text_in, residue_in, numbers_of, exponent_in, term_from, term_in, terms_of, polynomial_in, polynomial_value, field_of}
@@ -105,15 +105,15 @@ polynomial_read : (n : ℕ) → n ≤ VARIABLES → (fault : FileFault) (numbers
 polynomial_read n most fault numbers (polynomial_text text) p e = text_in_read n most fault numbers text p e
 polynomial_read n most fault numbers (term_list ds) p e = terms_read n most fault ds p e
 
-polynomial_value_read : (n : ℕ) → n ≤ VARIABLES → (fault : FileFault) (numbers : NumbersValue) (d : Data) (p : Polynomial) → polynomial_value fault n numbers d ≡ Ok p → IsPolynomial n FILE_DEGREE p
+polynomial_value_read : (n : ℕ) → n ≤ VARIABLES → (fault : FileFault) (numbers : NumbersValue) (d : Data) (p : Polynomial) → polynomial_value fault n numbers d ≡ Ok p → IsRead n p
 unfolding polynomial_value
 polynomial_value_read n most fault numbers d p e =
     let key = bind_ok (polynomial_of fault d) _ p e in
-    (polynomial_read n most fault numbers key.0 p key.1.1).polynomial
+    polynomial_read n most fault numbers key.0 p key.1.1
 
 pub record IsReadField (n : ℕ) (a : List Polynomial) : Type 0 where
   pub count : length a ≡ n
-  pub polynomials : All (IsPolynomial n FILE_DEGREE) a
+  pub each : All (IsRead n) a
 
 field_read : (n : ℕ) → n ≤ VARIABLES → (fault : FileFault) (numbers : NumbersValue) (ds : List Data) (a : List Polynomial) → field_of fault n numbers ds ≡ Ok a → IsReadField n a
 unfolding field_of
@@ -122,7 +122,7 @@ field_read n most fault numbers ds a e =
     let many : length ds ≡ n = grind (arith, nat_tests, read.0) in
     record {
       count = collect_length (polynomial_value fault n numbers) ds a read.1 ∙ many;
-      polynomials = All-each (IsPolynomial n FILE_DEGREE) a (collect_each (IsPolynomial n FILE_DEGREE) (polynomial_value fault n numbers) (polynomial_value_read n most fault numbers) ds a read.1);
+      each = All-each (IsRead n) a (collect_each (IsRead n) (polynomial_value fault n numbers) (polynomial_value_read n most fault numbers) ds a read.1);
     }
 
 -- ---- the parts
@@ -172,8 +172,11 @@ probe_is n most numbers keys probe e =
     let b = bind_ok (polynomial_in faults.Probe n numbers keys.factor) _ probe a.1.1 in
     let seed = bind_ok (powers_from faults.Probe n keys.seed) _ probe b.1.1 in
     let field = field_read n most faults.Probe numbers keys.field a.0 a.1.0 in
+    let factor = polynomial_read n most faults.Probe numbers keys.factor b.0 b.1.0 in
     subst (IsProbe n) (ok_is _ probe seed.1.1) (record {
-      field = record { count = field.count; polynomials = field.polynomials; factor = (polynomial_read n most faults.Probe numbers keys.factor b.0 b.1.0).polynomial };
+      field = record { count = field.count; polynomials = λ k d below. (field.each k d below).polynomial; factor = factor.polynomial };
+      few_terms = λ k d below. (field.each k d below).few;
+      few_factor_terms = factor.few;
       seed = powers_are faults.Probe n keys.seed seed.0 seed.1.0;
     })
 

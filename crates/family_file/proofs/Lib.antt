@@ -6,8 +6,8 @@ pub mod Into
 pub mod Toml
 pub mod Front
 pub mod Binds
+pub mod FirstOccurrences
 pub mod TargetLimits
-pub mod TargetMembers
 pub mod SectorLimits
 pub mod PolynomialLimits
 pub mod TextLimits

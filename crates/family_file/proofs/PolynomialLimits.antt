@@ -200,6 +200,3 @@ pub sum_is : (p terms : Polynomial) → IsCanonical deg_rev_lex p → SamePolyno
 sum_is p terms canonical same =
     same_canonical deg_rev_lex deg_rev_lex_total same_exponents exponents_decide deg_rev_lex_unique p (normal_form deg_rev_lex terms) canonical (IsCanonical-normal_form deg_rev_lex deg_rev_lex_total deg_rev_lex_unique terms)
     (SameCoefficients-trans same (SameCoefficients-sym (SameCoefficients-normal_form deg_rev_lex deg_rev_lex_total deg_rev_lex_unique same_exponents exponents_decide terms)))
-
-pub same_polynomial : (p q : Polynomial) → IsCanonical deg_rev_lex p → IsCanonical deg_rev_lex q → SamePolynomial p q → p ≡ q
-same_polynomial p q first second same = same_canonical deg_rev_lex deg_rev_lex_total same_exponents exponents_decide deg_rev_lex_unique p q first second same

@@ -1,9 +1,7 @@
 -- Powers and targets that are read are within their limits.
-use Rattle.std.proofs.Common.{◌≡◌, ℕ, zero, suc, ◌+◌, ◌≤◌, Bool, true, false, cond, ◌||◌, List, [], ◌∷◌, ◌++◌, length, Ok, refl, ◌∙◌, arith, length-append, subst}
+use Rattle.std.proofs.Common.{◌≡◌, ℕ, zero, suc, ◌≤◌, List, [], ◌∷◌, length, Ok, ◌∙◌, arith, subst}
 use Rattle.std.specs.Prelude.{ℤ, pos, negsuc, ◌≤ℤ◌, neg_ℤ, nat_lt, ◌==◌}
-use Rattle.std.specs.List.{All, AllByRecursion, IsDistinct, list_any}
-use Rattle.std.specs.Cmp.{int_eq_equiv}
-use Rattle.std.specs.Cmp.Lexicographic.{lists_equiv}
+use Rattle.std.specs.List.{All, AllByRecursion, IsDistinct}
 use Rattle.std.specs.Int.Signed.{le_z_yes}
 use Rattle.std.proofs.Math.Facts.{leb_yes, yes_leb}
 use Rattle.std.proofs.lemmas.Float.{T_from_true}
@@ -15,8 +13,9 @@ use Rattle.sector_lattice.specs.Ranges.{InRange}
 use Rattle.family_file.specs.declared.fault.FileFault.{FileFault}
 use Rattle.family_file.specs.declared.fault.FileFault.TheVariants.{Targets}
 use Rattle.family_file.specs.Reading.{collect}
-use Rattle.family_file.specs.Arrays.{power_in, powers_from, powers_in, integer_in, list_in, with_target, first_seen, targets_of}
+use Rattle.family_file.specs.Arrays.{power_in, powers_from, powers_in, integer_in, list_in, targets_in, first_occurrences, targets_of}
 use Rattle.family_file.specs.Shapes.{ArePowers}
+use Rattle.family_file.proofs.FirstOccurrences.{first_occurrences_each, first_occurrences_length, first_occurrences_distinct}
 use Rattle.family_file.proofs.Binds.{bind_ok, where_ok, unless_ok, ok_is, whole_within, collect_each, collect_length, All-each}
 
 pub record IsPower (z : ℤ) : Type 0 where
@@ -74,65 +73,7 @@ powers_in_are fault n d zs h =
     let read = bind_ok (list_in fault d) _ zs h in
     powers_are fault n read.0 zs read.1.1
 
--- ---- each target once
-
-pub append_each : {X : Type 0} (P : X → Type 0) (xs : List X) (y : X) → AllByRecursion P xs → P y → AllByRecursion P (xs ++ y ∷ [])
-append_each P [] y h p = (p, tt)
-append_each P (x ∷ xs) y h p = (h.0, append_each P xs y h.1 p)
-
-seen_each : (P : List ℤ → Type 0) (seen : List (List ℤ)) (t : List ℤ) → AllByRecursion P seen → P t → AllByRecursion P (with_target seen t)
-seen_each P seen t h p =
-    elim (list_any (same_powers t) seen) as (λ b. AllByRecursion P (cond b seen (seen ++ t ∷ []))) [
-      | true ↦ h
-      | false ↦ append_each P seen t h p
-    ]
-
-pub first_seen_each : (P : List ℤ → Type 0) (seen ts : List (List ℤ)) → AllByRecursion P seen → AllByRecursion P ts → AllByRecursion P (first_seen seen ts)
-first_seen_each P seen [] h k = h
-first_seen_each P seen (t ∷ ts) h k = first_seen_each P (with_target seen t) ts (seen_each P seen t h k.0) k.1
-
-seen_length : (seen : List (List ℤ)) (t : List ℤ) → length (with_target seen t) ≤ length seen + 1
-seen_length seen t =
-    elim (list_any (same_powers t) seen) as (λ b. length (cond b seen (seen ++ t ∷ [])) ≤ length seen + 1) [
-      | true ↦ omega arith
-      | false ↦ omega (arith, length-append seen (t ∷ []))
-    ]
-
-pub first_seen_length : (seen ts : List (List ℤ)) → length (first_seen seen ts) ≤ length seen + length ts
-first_seen_length seen [] = omega arith
-first_seen_length seen (t ∷ ts) = omega (arith, seen_length seen t, first_seen_length (with_target seen t) ts)
-
-other_way : (s t : List ℤ) → same_powers t s ≡ false → same_powers s t ≡ false
-other_way s t h = (lists_equiv int_eq_equiv).symm s t ∙ h
-
-differ_all : (t s : List ℤ) (xs : List (List ℤ)) → AllByRecursion (λ y. same_powers s y ≡ false) xs → same_powers s t ≡ false → AllByRecursion (λ y. same_powers s y ≡ false) (xs ++ t ∷ [])
-differ_all t s xs h k = append_each (λ y. same_powers s y ≡ false) xs t h k
-
-or_false : (a b : Bool) → (a || b) ≡ false → (a ≡ false) × (b ≡ false)
-or_false true b h = absurd (cc)
-or_false false b h = (refl, h)
-
-distinct_append : (t : List ℤ) (xs : List (List ℤ)) → IsDistinct same_powers xs → list_any (same_powers t) xs ≡ false → IsDistinct same_powers (xs ++ t ∷ [])
-unfolding IsDistinct
-distinct_append t [] h k = (tt, tt)
-distinct_append t (x ∷ xs) h k =
-    let parts = or_false (same_powers t x) (list_any (same_powers t) xs) k in
-    (differ_all t x xs h.0 (other_way x t parts.0), distinct_append t xs h.1 parts.1)
-
-seen_distinct : (seen : List (List ℤ)) (t : List ℤ) → IsDistinct same_powers seen → IsDistinct same_powers (with_target seen t)
-seen_distinct seen t h =
-    elim (list_any (same_powers t) seen) as (λ b. list_any (same_powers t) seen ≡ b → IsDistinct same_powers (cond b seen (seen ++ t ∷ []))) [
-      | true ↦ λ e. h
-      | false ↦ λ e. distinct_append t seen h e
-    ] refl
-
-pub first_seen_distinct : (seen ts : List (List ℤ)) → IsDistinct same_powers seen → IsDistinct same_powers (first_seen seen ts)
-first_seen_distinct seen [] h = h
-first_seen_distinct seen (t ∷ ts) h = first_seen_distinct (with_target seen t) ts (seen_distinct seen t h)
-
-pub nothing_distinct : IsDistinct same_powers []
-unfolding IsDistinct
-nothing_distinct = tt
+-- ---- targets
 
 pub record AreTargets (n : ℕ) (targets : List (List ℤ)) : Type 0 where
   pub few : length targets ≤ 1000
@@ -142,14 +83,14 @@ pub record AreTargets (n : ℕ) (targets : List (List ℤ)) : Type 0 where
 pub targets_are : (n : ℕ) (ds : List Data) (ts : List (List ℤ)) → targets_of n ds ≡ Ok ts → AreTargets n ts
 unfolding targets_of
 targets_are n ds ts h =
-    let within = unless_ok (nat_lt 1000 (length ds)) _ Targets ts h in
+    let within = unless_ok (nat_lt 1000 (length ds)) (targets_in n ds) Targets ts h in
     let read = bind_ok (collect (powers_in Targets n) ds) _ ts within.1 in
-    let seen : first_seen [] read.0 ≡ ts = ok_is _ _ read.1.1 in
+    let first : first_occurrences read.0 ≡ ts = ok_is _ _ read.1.1 in
     let each = collect_each (ArePowers n) (powers_in Targets n) (powers_in_are Targets n) ds read.0 read.1.0 in
     let many : length read.0 ≡ length ds = collect_length (powers_in Targets n) ds read.0 read.1.0 in
     let few : length ds ≤ 1000 = grind (arith, nat_tests, within.0) in
-    subst (AreTargets n) seen (record {
-      few = omega (arith, first_seen_length [] read.0, many, few);
-      each = All-each (ArePowers n) (first_seen [] read.0) (first_seen_each (ArePowers n) [] read.0 tt each);
-      distinct = first_seen_distinct [] read.0 nothing_distinct;
+    subst (AreTargets n) first (record {
+      few = omega (arith, first_occurrences_length read.0, many, few);
+      each = All-each (ArePowers n) (first_occurrences read.0) (first_occurrences_each (ArePowers n) read.0 each);
+      distinct = first_occurrences_distinct read.0;
     })

@@ -1,13 +1,16 @@
 -- Targets, seeds and zero sectors, which stand in arrays of integers.
 --     powers_from fault n ds      the powers of an integral of n variables
---     targets_of n ds             the targets, each once, in the order in which they are first met
+--     first_occurrences targets   each target once, in the order in which they are first met
+--     first_place targets powers  the place, from 0, at which an integral is first met
+--     targets_of n ds             the targets of an array
 --     zero_sectors_of n ds        the sectors of arrays of variables
-use Rattle.std.specs.Prelude.{ℕ, zero, suc, ◌+◌, ◌^◌, ◌==◌, ℤ, pos, negsuc, nat_eq, nat_lt, Bool, true, not, ◌&&◌, Option, Some, None, List, [], ◌∷◌, ◌++◌, length, Result, Ok, Err, if◌then◌else◌}
+use Rattle.std.specs.Prelude.{ℕ, zero, suc, ◌+◌, ◌^◌, ◌==◌, ℤ, nat_eq, nat_lt, Bool, true, not, ◌&&◌, Option, Some, None, List, [], ◌∷◌, length, Result, Ok, Err, if◌then◌else◌}
 use Rattle.std.specs.Option.{ok_or}
-use Rattle.std.specs.List.{list_any}
+use Rattle.std.specs.List.{filter, list_any, position_or_len}
 use Rattle.toml.specs.Data.{Data, as_integer}
 use Rattle.ibp_algebra.specs.Laurent.{same_powers}
 use Rattle.sector_lattice.specs.declared.sector.Sector.{Sector}
+use Rattle.family_file.specs.declared.ranges.TheConstants.{LEAST_POWER, GREATEST_POWER, TARGET_LIMIT, SECTOR_LIMIT}
 use Rattle.family_file.specs.declared.fault.FileFault.{FileFault}
 use Rattle.family_file.specs.declared.fault.FileFault.TheVariants.{Targets, ZeroSectors}
 use Rattle.family_file.specs.Reading.{◌>>=◌, collect}
@@ -25,7 +28,7 @@ list_in fault d = ok_or (as_list d) fault
 unfoldable pub power_in : FileFault → Data → Result ℤ FileFault
 power_in fault d = do
   z ← integer_in fault d
-  whole fault (negsuc 29) (pos 30) z
+  whole fault LEAST_POWER GREATEST_POWER z
 
 -- the powers of an integral of n variables
 unfoldable pub powers_from : FileFault → ℕ → List Data → Result (List ℤ) FileFault
@@ -36,19 +39,23 @@ powers_in fault n d = do
   ds ← list_in fault d
   powers_from fault n ds
 
--- the integrals before this one, and this one at the end unless it is among them
-abbrev pub with_target : List (List ℤ) → List ℤ → List (List ℤ)
-with_target seen powers = if list_any (same_powers powers) seen then seen else seen ++ powers ∷ []
+-- the first one, and then the first occurrences in what follows that differ from it
+abbrev pub first_occurrences : List (List ℤ) → List (List ℤ)
+first_occurrences [] = []
+first_occurrences (powers ∷ targets) = powers ∷ filter (λ other. not (same_powers powers other)) (first_occurrences targets)
 
-abbrev pub first_seen : List (List ℤ) → List (List ℤ) → List (List ℤ)
-first_seen seen [] = seen
-first_seen seen (powers ∷ others) = first_seen (with_target seen powers) others
+abbrev pub first_place : List (List ℤ) → List ℤ → ℕ
+first_place targets powers = position_or_len (same_powers powers) targets
 
--- the targets, of which there are at most a thousand entries
-unfoldable pub targets_of : ℕ → List Data → Result (List (List ℤ)) FileFault
-targets_of n ds = if nat_lt 1000 (length ds) then Err Targets else do
+-- the targets, each once
+abbrev pub targets_in : ℕ → List Data → Result (List (List ℤ)) FileFault
+targets_in n ds = do
   targets ← collect (powers_in Targets n) ds
-  Ok (first_seen [] targets)
+  Ok (first_occurrences targets)
+
+-- the targets of an array, which has no more entries than the limit
+unfoldable pub targets_of : ℕ → List Data → Result (List (List ℤ)) FileFault
+targets_of n ds = if nat_lt TARGET_LIMIT (length ds) then Err Targets else targets_in n ds
 
 -- the number of a variable
 unfoldable pub place_in : ℕ → Data → Result ℕ FileFault
@@ -74,7 +81,7 @@ sector_in n d = do
   places ← collect (place_in n) ds
   sector_of_places n places
 
--- the zero sectors, of which there are at most 512 entries
+-- the zero sectors of an array, which has no more entries than the limit
 unfoldable pub zero_sectors_of : ℕ → Option (List Data) → Result (List Sector) FileFault
 zero_sectors_of n None = Ok []
-zero_sectors_of n (Some ds) = if nat_lt 512 (length ds) then Err ZeroSectors else collect (sector_in n) ds
+zero_sectors_of n (Some ds) = if nat_lt SECTOR_LIMIT (length ds) then Err ZeroSectors else collect (sector_in n) ds

@@ -11,6 +11,7 @@ use Rattle.mono_order.specs.declared.limits.TheConstants.{VARIABLES}
 use Rattle.poly_text.specs.PolyText.{NumbersValue}
 use Rattle.poly_text.specs.Value.{is_zero}
 use Rattle.sector_lattice.specs.declared.sector.Sector.{Sector}
+use Rattle.family_file.specs.declared.ranges.TheConstants.{LOOP_LIMIT, LEG_LIMIT, CAP_LIMIT, EXTRA_LIMIT, PAIR_LIMIT, CANDIDATE_LIMIT, MAX_FILE}
 use Rattle.family_file.specs.declared.fault.FileFault.{FileFault}
 use Rattle.family_file.specs.declared.fault.FileFault.TheVariants.{TooLong, NotToml, Header, Shape, Number, Baikov, ZeroBaikov, Limits, Budget, Probe, NoSector}
 use Rattle.family_file.specs.declared.need.Need.{Need}
@@ -62,8 +63,8 @@ header_of header = do
 -- L loops and E independent external momenta have L(L + 1)/2 + L E variables
 unfoldable pub shape_of : HeaderKeys → Result ShapeData FileFault
 shape_of header = do
-  loops ← natural Shape 1 3 header.loops
-  legs ← natural Shape 0 8 header.legs
+  loops ← natural Shape 1 LOOP_LIMIT header.loops
+  legs ← natural Shape 0 LEG_LIMIT header.legs
   variables ← natural Shape 1 VARIABLES header.variables
   if variables == loops * (loops + 1) / 2 + loops * legs then Ok (record { loops = loops; legs = legs; variables = variables }) else Err Shape
 
@@ -77,16 +78,16 @@ unless_zero p = if is_zero p then Err ZeroBaikov else Ok p
 
 unfoldable pub bounds_of : BoundsKeys → Result Bounds FileFault
 bounds_of bounds = do
-  dots_cap ← natural Limits 0 20 bounds.dots_cap
-  rank_cap ← natural Limits 0 20 bounds.rank_cap
-  extra_dots ← natural Limits 0 5 bounds.extra_dots
-  extra_rank ← natural Limits 0 5 bounds.extra_rank
+  dots_cap ← natural Limits 0 CAP_LIMIT bounds.dots_cap
+  rank_cap ← natural Limits 0 CAP_LIMIT bounds.rank_cap
+  extra_dots ← natural Limits 0 EXTRA_LIMIT bounds.extra_dots
+  extra_rank ← natural Limits 0 EXTRA_LIMIT bounds.extra_rank
   Ok (record { dots_cap = dots_cap; rank_cap = rank_cap; extra_dots = extra_dots; extra_rank = extra_rank })
 
 unfoldable pub budget_of : BudgetKeys → Result BudgetParts FileFault
 budget_of budget = do
-  pairs ← natural Budget 0 10000000 budget.pairs
-  candidates ← natural Budget 0 20000 budget.candidates
+  pairs ← natural Budget 0 PAIR_LIMIT budget.pairs
+  candidates ← natural Budget 0 CANDIDATE_LIMIT budget.candidates
   Ok (record { pairs = pairs; candidates = candidates })
 
 unfoldable pub probe_of : ℕ → NumbersValue → ProbeKeys → Result ProbeParts FileFault
@@ -138,7 +139,7 @@ family_of_keys need keys = do
 
 -- the family that the bytes describe, or the first fault that they have
 unfoldable pub family_of : Need → List ℕ → Result FamilyData FileFault
-family_of need bytes = if nat_lt 1048576 (length bytes) then Err TooLong else do
+family_of need bytes = if nat_lt MAX_FILE (length bytes) then Err TooLong else do
   table ← table_of_bytes bytes
   keys ← document_keys table
   family_of_keys need keys

@@ -15,23 +15,26 @@ use Rattle.ibp_algebra.specs.Polynomial.{Polynomial}
 use Rattle.mono_order.specs.declared.limits.TheConstants.{VARIABLES}
 use Rattle.sector_lattice.specs.declared.sector.Sector.{Sector}
 use Rattle.family_file.specs.declared.limits.TheConstants.{FILE_DEGREE}
+use Rattle.family_file.specs.declared.ranges.TheConstants.{CAP_LIMIT, EXTRA_LIMIT, PAIR_LIMIT, CANDIDATE_LIMIT, TARGET_LIMIT, SECTOR_LIMIT}
 use Rattle.family_file.specs.declared.parts.Bounds.{Bounds}
 use Rattle.family_file.specs.declared.parts.Budget.{Budget}
 use Rattle.family_file.specs.declared.parts.Probe.{Probe}
 use Rattle.family_file.specs.Shapes.{HasVariables, IsPolynomial, IsField, ArePowers}
 
 pub record BoundsWithin (bounds : Bounds) : Type 0 where
-  pub dots_cap : bounds.dots_cap ≤ 20
-  pub rank_cap : bounds.rank_cap ≤ 20
-  pub extra_dots : bounds.extra_dots ≤ 5
-  pub extra_rank : bounds.extra_rank ≤ 5
+  pub dots_cap : bounds.dots_cap ≤ CAP_LIMIT
+  pub rank_cap : bounds.rank_cap ≤ CAP_LIMIT
+  pub extra_dots : bounds.extra_dots ≤ EXTRA_LIMIT
+  pub extra_rank : bounds.extra_rank ≤ EXTRA_LIMIT
 
 pub record BudgetWithin (budget : Budget) : Type 0 where
-  pub pairs : budget.pairs ≤ 10000000
-  pub candidates : budget.candidates ≤ 20000
+  pub pairs : budget.pairs ≤ PAIR_LIMIT
+  pub candidates : budget.candidates ≤ CANDIDATE_LIMIT
 
 pub record IsProbe (n : ℕ) (probe : Probe) : Type 0 where
   pub field : IsField n FILE_DEGREE probe.field.a probe.field.b
+  pub few_terms : All (λ polynomial. length polynomial ≤ 20000) probe.field.a
+  pub few_factor_terms : length probe.field.b ≤ 20000
   pub seed : ArePowers n probe.seed
 
 pub record FamilyLimits (n : ℕ) (baikov : Polynomial) (targets : List (List ℤ)) (zero : List Sector) (bounds : Bounds) (budget : Budget) (probe : Option Probe) : Type 0 where
@@ -40,10 +43,10 @@ pub record FamilyLimits (n : ℕ) (baikov : Polynomial) (targets : List (List �
   pub polynomial : IsPolynomial n FILE_DEGREE baikov
   pub few_terms : length baikov ≤ 20000
   pub not_zero : baikov ≢ []
-  pub few_targets : length targets ≤ 1000
+  pub few_targets : length targets ≤ TARGET_LIMIT
   pub target_powers : All (ArePowers n) targets
   pub distinct : IsDistinct same_powers targets
-  pub few_zero : length zero ≤ 512
+  pub few_zero : length zero ≤ SECTOR_LIMIT
   pub zero_below : All (λ sector. sector.0 < 2 ^ n) zero
   pub bounds_within : BoundsWithin bounds
   pub budget_within : BudgetWithin budget

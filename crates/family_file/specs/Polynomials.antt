@@ -3,8 +3,7 @@
 --     numbers_of table                        the numbers of a file, each with its name
 --     polynomial_in fault n numbers key       a polynomial in z1 to zn
 --     field_of fault n numbers ds             n of them
-use Rattle.std.specs.Prelude.{ℕ, ◌-◌, ◌==◌, nat_lt, nat_le, Bool, false, not, ◌&&◌, ◌||◌, Option, Some, None, List, [], ◌∷◌, ◌++◌, length, replicate, sum, Result, Ok, Err, if◌then◌else◌}
-use Rattle.std.specs.List.{list_all}
+use Rattle.std.specs.Prelude.{ℕ, ◌-◌, ◌==◌, nat_lt, nat_le, not, ◌&&◌, Option, Some, None, List, [], ◌∷◌, ◌++◌, length, replicate, sum, Result, Ok, Err, if◌then◌else◌}
 use Rattle.std.specs.FinMap as map
 use Rattle.toml.specs.Data.{Data, Members}
 use Rattle.ibp_field.specs.Arithmetic.{int_mod}
@@ -13,46 +12,30 @@ use Rattle.ibp_algebra.specs.FormalSum.{normal_form}
 use Rattle.ibp_algebra.specs.Polynomial.{Polynomial}
 use Rattle.mono_order.specs.declared.limits.TheConstants.{VARIABLES}
 use Rattle.poly_text.specs.declared.fault.TextFault.{TextFault}
-use Rattle.poly_text.specs.PolyText.{NumbersValue, value_in, text_answer}
-use Rattle.poly_text.specs.Value.{constant_term}
+use Rattle.poly_text.specs.PolyText.{NumbersValue, value_in, text_answer, number_answer, is_number_name}
 use Rattle.family_file.specs.declared.limits.TheConstants.{FILE_DEGREE}
+use Rattle.family_file.specs.declared.ranges.TheConstants.{NUMBER_LIMIT}
 use Rattle.family_file.specs.declared.fault.FileFault.{FileFault}
 use Rattle.family_file.specs.declared.fault.FileFault.TheVariants.{Number}
 use Rattle.family_file.specs.Reading.{◌>>=◌, collect}
 use Rattle.family_file.specs.Table.{entries_list, NumberData, whole_number, number_text, number_of, PolynomialData, polynomial_text, term_list, polynomial_of}
 use Rattle.family_file.specs.Numbers.{natural}
-use Rattle.family_file.specs.Name.{is_between}
 use Rattle.family_file.specs.Arrays.{integer_in, list_in}
 
--- a polynomial text, in a place that has this fault
-abbrev pub or_fault : FileFault → Result Polynomial TextFault → Result Polynomial FileFault
-or_fault fault (Ok p) = Ok p
+-- what a text stands for, in a place that has this fault
+abbrev pub or_fault : {A : Type 0} → FileFault → Result A TextFault → Result A FileFault
+or_fault fault (Ok x) = Ok x
 or_fault fault (Err _) = Err fault
 
 unfoldable pub text_in : FileFault → ℕ → NumbersValue → List ℕ → Result Polynomial FileFault
 text_in fault n numbers text = or_fault fault (text_answer n (value_in numbers) text)
 
--- the number that a text without variables and names spells
 unfoldable pub number_text_in : FileFault → List ℕ → Result ℕ FileFault
-number_text_in fault text = do
-  p ← text_in fault 0 map.empty text
-  Ok (constant_term p)
+number_text_in fault text = or_fault fault (number_answer text)
 
 abbrev pub residue_in : FileFault → NumberData → Result ℕ FileFault
 residue_in fault (whole_number z) = Ok (int_mod z)
 residue_in fault (number_text text) = number_text_in fault text
-
--- a letter or an underscore, and then also digits; not a z and digits alone
-abbrev pub is_letter : ℕ → Bool
-is_letter b = is_between 97 122 b || is_between 65 90 b || b == 95
-
-abbrev pub is_digit : ℕ → Bool
-is_digit b = is_between 48 57 b
-
-abbrev pub is_number_name : List ℕ → Bool
-is_number_name [] = false
-is_number_name (first ∷ others) = (nat_le (length others) 31 && is_letter first && list_all (λ b. is_letter b || is_digit b) others)
-    && not (first == 122 && nat_le 1 (length others) && list_all is_digit others)
 
 -- a name with its number
 unfoldable pub named_number : List ℕ × Data → Result (List ℕ × ℕ) FileFault
@@ -66,9 +49,9 @@ abbrev pub with_entries : NumbersValue → List (List ℕ × ℕ) → NumbersVal
 with_entries numbers [] = numbers
 with_entries numbers (entry ∷ entries) = with_entries (map.insert numbers entry.0 entry.1) entries
 
--- the numbers of a table, of which there are at most 64
+-- the numbers of a table, which has no more entries than the limit
 unfoldable pub numbers_in : Members → Result NumbersValue FileFault
-numbers_in table = if nat_lt 64 (length (entries_list table)) then Err Number else do
+numbers_in table = if nat_lt NUMBER_LIMIT (length (entries_list table)) then Err Number else do
   entries ← collect named_number (entries_list table)
   Ok (with_entries map.empty entries)
 

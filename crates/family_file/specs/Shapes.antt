@@ -2,14 +2,15 @@
 --     HasVariables n m            as many exponents as a monomial has, of which those from place n on are zero
 --     IsPolynomial n degree p     canonical, with no variable above z_n, of at most this degree
 --     IsField n degree a b        n such polynomials and a factor
---     ArePowers n powers          n powers from -30 to 30
-use Rattle.std.specs.Prelude.{◌≡◌, ℕ, ◌≤◌, ℤ, pos, negsuc, ◌≤ℤ◌, List, length, sum, slice_index_or}
+--     ArePowers n powers          n powers from the least to the greatest
+use Rattle.std.specs.Prelude.{◌≡◌, ℕ, ◌≤◌, ℤ, ◌≤ℤ◌, List, length, sum, slice_index_or}
 use Rattle.std.specs.List.{All}
 use Rattle.ibp_algebra.specs.FormalSum.{AllKeys, IsCanonical}
 use Rattle.ibp_algebra.specs.Exponents.{deg_rev_lex}
 use Rattle.ibp_algebra.specs.Laurent.{power_at}
 use Rattle.ibp_algebra.specs.Polynomial.{Polynomial}
 use Rattle.mono_order.specs.declared.limits.TheConstants.{VARIABLES}
+use Rattle.family_file.specs.declared.ranges.TheConstants.{LEAST_POWER, GREATEST_POWER}
 
 pub record HasVariables (n : ℕ) (m : List ℕ) : Type 0 where
   pub nine : length m ≡ VARIABLES
@@ -27,5 +28,5 @@ pub record IsField (n degree : ℕ) (a : List Polynomial) (b : Polynomial) : Typ
 
 pub record ArePowers (n : ℕ) (powers : List ℤ) : Type 0 where
   pub count : length powers ≡ n
-  pub low : (i : ℕ) → negsuc 29 ≤ℤ power_at powers i
-  pub high : (i : ℕ) → power_at powers i ≤ℤ pos 30
+  pub low : (i : ℕ) → LEAST_POWER ≤ℤ power_at powers i
+  pub high : (i : ℕ) → power_at powers i ≤ℤ GREATEST_POWER

@@ -1,22 +1,19 @@
 //! Integrals that stand in arrays.
 
-ghost use Rattle.std.specs.Prelude.{◌≡◌, ◌≤◌, [], ℤ, pos, negsuc, map, OnOk};
-ghost use Rattle.std.specs.List.{list_any};
+ghost use Rattle.std.specs.Prelude.{◌≤◌, map};
 ghost use Rattle.toml.specs.View.{view};
-ghost use Rattle.ibp_algebra.specs.Laurent.{same_powers};
 ghost use Rattle.mono_order.specs.declared.limits.TheConstants.{VARIABLES};
 ghost use Rattle.family_file.specs.Reading.{Returns, Gives, collect};
-ghost use Rattle.family_file.specs.Arrays.{integer_in, list_in, power_in, powers_from, powers_in, with_target, targets_of};
-ghost use Rattle.family_file.specs.Accumulated.{seen_after};
+ghost use Rattle.family_file.specs.Arrays.{integer_in, list_in, power_in, powers_from, powers_in, targets_in, targets_of};
 
 use crate::fault::{FamilyFault, FileFault};
 use crate::numbers::whole;
+use crate::ranges::{GREATEST_POWER, LEAST_POWER, TARGET_LIMIT};
 use crate::table::as_list;
+use indexmap::IndexSet;
 use sector_lattice::Integral;
-use std::alloc::{AllocFailed, Global};
+use std::alloc::Global;
 use toml::value::{Array, Value};
-
-const MOST_TARGETS: usize = 1000;
 
 /// An integer, in a place that has this fault.
 pub fn integer_in(value: &Value, fault: FileFault) -> Result<i64, FileFault>
@@ -36,7 +33,8 @@ pub fn list_in(value: &Value, fault: FileFault) -> Result<&Array, FileFault>
 fn power_in(value: &Value, fault: FileFault) -> Result<i16, FileFault>
     ensures { Returns (λ z. z) result (power_in fault (view value.now)) }
 {
-    whole(integer_in(value, fault)?, -30, 30, fault)
+    let power = integer_in(value, fault)?;
+    whole(power, LEAST_POWER, GREATEST_POWER, fault)
 }
 
 fn collect_powers(
@@ -100,52 +98,27 @@ fn integral_in(
     integral_from(alloc, list_in(value, fault)?, n, fault)
 }
 
-fn has_powers(target: &Integral, other: &Integral) -> bool
-    ensures { result ≡ same_powers target.now other.now }
-{
-    target.powers() == other.powers()
-}
-
-fn is_among(targets: &[Integral], target: &Integral) -> bool
-    ensures { result ≡ list_any (same_powers target.now) targets.now }
-{
-    targets.iter().any(|seen| has_powers(target, seen))
-}
-
-// Puts the target at the end, unless it is there already.
-fn put_target(targets: &mut Vec<Integral>, target: Integral) -> Result<(), AllocFailed<Integral>>
-    ensures { OnOk result (targets.new.items ≡ with_target targets.old.items target) }
-{
-    if !is_among(targets, &target) {
-        targets.push(target)?;
-    }
-    Ok(())
-}
-
 fn collect_targets(alloc: Global, values: &[Value], n: u8) -> Result<Vec<Integral>, FamilyFault>
     requires some { 1 ≤ n }
     requires few { n ≤ VARIABLES }
-    ensures { Gives (λ v. v.items) result
-        (seen_after [] (collect (powers_in FileFault.Targets n) (map view values.now))) }
+    ensures { Gives (λ v. v.items) result (targets_in n (map view values.now)) }
 {
-    let mut targets = Vec::new(alloc);
+    let mut targets = IndexSet::new(alloc);
     for value in values {
-        put_target(
-            &mut targets,
-            integral_in(alloc, value, n, FileFault::Targets)?,
-        )?;
+        let target = integral_in(alloc, value, n, FileFault::Targets)?;
+        targets.insert(target)?;
     }
-    Ok(targets)
+    Ok(targets.as_slice().to_vec(alloc)?)
 }
 
-/// The targets, each once, in the order of the file.
+/// The targets, each once, in the order in which the file first has them.
 #[tactic(auto, unfolding(crate::specs::Arrays::targets_of))]
 pub fn targets_of(alloc: Global, values: &[Value], n: u8) -> Result<Vec<Integral>, FamilyFault>
     requires some { 1 ≤ n }
     requires few { n ≤ VARIABLES }
     ensures { Gives (λ v. v.items) result (targets_of n (map view values.now)) }
 {
-    if values.len() > MOST_TARGETS {
+    if values.len() > TARGET_LIMIT {
         return Err(FamilyFault::File(FileFault::Targets));
     }
     collect_targets(alloc, values, n)

@@ -13,19 +13,24 @@ use sparse_poly::Poly;
 /// limits of a file.
 #[derive(PartialEq, Eq, Drop)]
 pub struct Family {
+    /// The name that its system bears.
     pub name: Name,
-    /// The number of variables.
+    /// The number n of variables `z_1` to `z_n`: `L(L + 1)/2 + L E` for L loops and E independent external
+    /// momenta.
     pub n: u8,
-    /// The exponent of the Baikov polynomial, modulo the prime.
+    /// The exponent `(D - L - E - 1)/2` of the Baikov polynomial in dimension D, modulo the prime.
     pub gamma: Residue,
-    /// The Baikov polynomial.
+    /// The Baikov polynomial, which is not zero.
     pub baikov: Poly,
-    /// The integrals to be reduced, each once, in the order of the file.
+    /// The integrals to be reduced, each once, in the order in which the file first has them.
     pub targets: List<Integral>,
     /// The sectors that are declared to be zero, with all their subsectors.
     pub zero: List<Sector>,
+    /// Which seeds are taken.
     pub bounds: Bounds,
+    /// How much work a sector may take.
     pub budget: Budget,
+    /// A field and a seed, where the file has them.
     pub probe: Option<Probe>,
     pub ghost limits: { FamilyLimits n baikov targets zero bounds budget probe } by { limits-prop n baikov targets zero bounds budget probe },
 }

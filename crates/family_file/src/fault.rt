@@ -82,7 +82,9 @@ impl FileFault {
 /// Why no family is read.
 #[derive(Clone, Copy, Debug, PartialEq, Eq)]
 pub enum FamilyFault {
+    /// The file has this fault.
     File(FileFault),
+    /// Memory ran out.
     NoMemory,
 }
 

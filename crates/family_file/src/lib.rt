@@ -14,6 +14,7 @@ mod need;
 mod numbers;
 mod parts;
 mod polynomials;
+mod ranges;
 mod read;
 mod sectors;
 mod table;
@@ -25,7 +26,11 @@ pub use limits::FILE_DEGREE;
 pub use name::Name;
 pub use need::Need;
 pub use parts::{Bounds, Budget, Field, Probe, StrippedField};
-pub use read::{MAX_FILE, read_family};
+pub use ranges::{
+    CANDIDATE_LIMIT, CAP_LIMIT, EXTRA_LIMIT, FAMILY_NAME_LIMIT, GREATEST_POWER, LEAST_POWER,
+    LEG_LIMIT, LOOP_LIMIT, MAX_FILE, NUMBER_LIMIT, PAIR_LIMIT, SECTOR_LIMIT, TARGET_LIMIT,
+};
+pub use read::read_family;
 
 #[cfg(test)]
 mod tests;

@@ -6,6 +6,7 @@ ghost use Rattle.std.specs.Cmp.Lexicographic.{nat_list_eq_equiv, pointwise};
 ghost use Rattle.std.specs.List.{list_all};
 ghost use Rattle.family_file.specs.Name.{is_name_byte, is_name, name_of};
 
+use crate::ranges::FAMILY_NAME_LIMIT;
 use ibp_base::NoMemory;
 use std::alloc::Global;
 use std::marker::Model;
@@ -42,7 +43,7 @@ fn are_name_bytes(bytes: &[u8]) -> bool
 fn is_name(bytes: &[u8]) -> bool
     ensures { result ≡ is_name bytes.now }
 {
-    1 <= bytes.len() && bytes.len() <= 64 && are_name_bytes(bytes)
+    1 <= bytes.len() && bytes.len() <= FAMILY_NAME_LIMIT && are_name_bytes(bytes)
 }
 
 impl Name {

@@ -1,63 +1,23 @@
 //! The numbers of a file, each with its name.
 
-ghost use Rattle.std.specs.Prelude.{◌≡◌, ◌||◌, length, option_map, OnOk, Ok};
+ghost use Rattle.std.specs.Prelude.{◌≡◌, length, option_map};
 ghost use Rattle.std.specs.FinMap as map;
-ghost use Rattle.std.specs.List.{list_all};
 ghost use Rattle.toml.specs.View.{view, table_view};
 ghost use Rattle.family_file.specs.Accumulated.{numbers_after};
 ghost use Rattle.family_file.specs.Reading.{Gives, collect};
 ghost use Rattle.family_file.specs.Table.{entries_list};
-ghost use Rattle.family_file.specs.Polynomials.{is_letter, is_digit, is_number_name, named_number, numbers_in, numbers_of};
+ghost use Rattle.family_file.specs.Polynomials.{named_number, numbers_in, numbers_of};
 
 use crate::fault::{FamilyFault, FileFault};
 use crate::polynomials::residue_in;
+use crate::ranges::NUMBER_LIMIT;
 use crate::table::number;
 use ibp_field::Residue;
-use poly_text::Numbers;
+use poly_text::{Numbers, is_number_name};
 use std::alloc::Global;
 use toml::Table;
 use toml::value::Value;
 
-const MOST_NUMBERS: usize = 64;
-
-fn is_letter(byte: u8) -> bool
-    ensures { result ≡ is_letter byte }
-{
-    matches!(byte, b'a'..=b'z' | b'A'..=b'Z' | b'_')
-}
-
-fn is_digit(byte: u8) -> bool
-    ensures { result ≡ is_digit byte }
-{
-    matches!(byte, b'0'..=b'9')
-}
-
-fn are_name_bytes(bytes: &[u8]) -> bool
-    ensures { result ≡ list_all (λ b. is_letter b || is_digit b) bytes.now }
-{
-    bytes.iter().all(|byte| is_letter(*byte) || is_digit(*byte))
-}
-
-fn are_digits(bytes: &[u8]) -> bool
-    ensures { result ≡ list_all is_digit bytes.now }
-{
-    bytes.iter().all(|byte| is_digit(*byte))
-}
-
-fn is_number_name(name: &[u8]) -> bool
-    ensures { result ≡ is_number_name name.now }
-{
-    match name {
-        [] => false,
-        [first, others @ ..] => {
-            let has_form = others.len() <= 31 && is_letter(*first) && are_name_bytes(others);
-            let is_variable = *first == b'z' && 1 <= others.len() && are_digits(others);
-            has_form && !is_variable
-        }
-    }
-}
-
-// The number of a name of the form.
 #[tactic(auto, unfolding(crate::specs::Polynomials::named_number))]
 fn named_number(alloc: Global, name: &str, value: &Value) -> Result<Residue, FamilyFault>
     ensures { Gives (λ r. (name.now, r)) result (named_number (name.now, view value.now)) }
@@ -85,7 +45,7 @@ fn collect_numbers(alloc: Global, table: &Table) -> Result<Numbers, FamilyFault>
 fn numbers_in(alloc: Global, table: &Table) -> Result<Numbers, FamilyFault>
     ensures { Gives (λ m. m) result (numbers_in (table_view table.now)) }
 {
-    if count_of(table) > MOST_NUMBERS {
+    if count_of(table) > NUMBER_LIMIT {
         return Err(FamilyFault::File(FileFault::Number));
     }
     collect_numbers(alloc, table)

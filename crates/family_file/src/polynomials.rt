@@ -5,11 +5,9 @@ ghost use Rattle.ibp_algebra.specs.Exponents.{deg_rev_lex};
 ghost use Rattle.ibp_algebra.specs.FormalSum.{normal_form};
 ghost use Rattle.toml.specs.View.{view};
 ghost use Rattle.mono_order.specs.declared.limits.TheConstants.{VARIABLES};
-ghost use Rattle.poly_text.specs.PolyText.{value_in};
-ghost use Rattle.poly_text.specs.Value.{constant_term};
 ghost use Rattle.family_file.specs.declared.limits.TheConstants.{FILE_DEGREE};
 ghost use Rattle.family_file.specs.KeyViews.{number_view, polynomial_view};
-ghost use Rattle.family_file.specs.Reading.{Returns, Gives, collect};
+ghost use Rattle.family_file.specs.Reading.{Returns, Gives, fault_in, collect};
 ghost use Rattle.family_file.specs.Polynomials.{text_in, number_text_in, residue_in, exponent_in, term_from, term_in, terms_of, polynomial_in, polynomial_value, field_of};
 
 use crate::arrays::{integer_in, list_in};
@@ -19,13 +17,23 @@ use crate::numbers::small;
 use crate::table::{NumberKey, PolynomialKey, polynomial};
 use ibp_base::NoMemory;
 use ibp_field::Residue;
-use mono_order::Monomial;
-use poly_text::{Numbers, TextFault, parse_poly};
+use mono_order::{Monomial, VARIABLES};
+use poly_text::{Numbers, TextFault, parse_number, parse_poly};
 use sparse_poly::Poly;
 use std::alloc::Global;
 use toml::value::Value;
 
 const MOST_TERMS: usize = 20_000;
+
+// Why a text stands for nothing, in a place that has this fault.
+fn fault_in(error: TextFault, fault: FileFault) -> FamilyFault
+    ensures { result ≡ fault_in fault error }
+{
+    match error {
+        TextFault::NoMemory => FamilyFault::NoMemory,
+        _ => FamilyFault::File(fault),
+    }
+}
 
 // A text that is too long to have places has no room beside it.
 #[tactic(auto, unfolding(crate::specs::Polynomials::text_in))]
@@ -44,17 +52,7 @@ fn text_in(
     }
     match parse_poly(alloc, text, n, numbers) {
         Ok(polynomial) => Ok(polynomial),
-        Err(TextFault::NoMemory) => Err(FamilyFault::NoMemory),
-        Err(_) => Err(FamilyFault::File(fault)),
-    }
-}
-
-fn constant_term(polynomial: &Poly) -> Residue
-    ensures { result ≡ constant_term polynomial.now }
-{
-    match polynomial.terms() {
-        [] => Residue::zero(),
-        [term, ..] => term.1,
+        Err(error) => Err(fault_in(error, fault)),
     }
 }
 
@@ -62,9 +60,13 @@ fn constant_term(polynomial: &Poly) -> Residue
 fn number_text_in(alloc: Global, text: &str, fault: FileFault) -> Result<Residue, FamilyFault>
     ensures { Gives (λ r. r) result (number_text_in fault text.now) }
 {
-    let numbers = Numbers::empty(alloc);
-    let polynomial = text_in(alloc, text, 0, &numbers, fault)?;
-    Ok(constant_term(&polynomial))
+    if text.len() > u32::MAX as usize {
+        return Err(FamilyFault::NoMemory);
+    }
+    match parse_number(alloc, text) {
+        Ok(number) => Ok(number),
+        Err(error) => Err(fault_in(error, fault)),
+    }
 }
 
 /// The value of a number modulo the prime.
@@ -119,7 +121,7 @@ fn monomial_of(exponents: &[u16]) -> Monomial
     requires within { sum exponents.now ≤ FILE_DEGREE }
     ensures { result ≡ exponents.now ++ replicate (VARIABLES - length exponents.now) 0 }
 {
-    let mut all = [0; 9];
+    let mut all = [0; VARIABLES];
     all[..exponents.len()].copy_from_slice(exponents);
     match Monomial::from_exponents(all) {
         Some(monomial) => monomial,

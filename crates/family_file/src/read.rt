@@ -3,6 +3,7 @@
 ghost use Rattle.std.specs.Prelude.{◌≡◌, ◌≤◌, IfOk, option_map};
 ghost use Rattle.toml.specs.View.{table_view};
 ghost use Rattle.mono_order.specs.declared.limits.TheConstants.{VARIABLES};
+ghost use Rattle.family_file.specs.declared.ranges.TheConstants.{LOOP_LIMIT, LEG_LIMIT};
 ghost use Rattle.family_file.specs.Reading.{Returns, Gives};
 ghost use Rattle.family_file.specs.Document.{document_keys};
 ghost use Rattle.family_file.specs.Views.{header_view, body_view, bounds_view, budget_view, probe_view, document_view};
@@ -22,6 +23,9 @@ use crate::need::Need;
 use crate::numbers::natural;
 use crate::parts::{Bounds, Budget, Field, Probe};
 use crate::polynomials::{field_of, polynomial_in, residue_in};
+use crate::ranges::{
+    CANDIDATE_LIMIT, CAP_LIMIT, EXTRA_LIMIT, LEG_LIMIT, LOOP_LIMIT, MAX_FILE, PAIR_LIMIT,
+};
 use crate::sectors::zero_sectors_of;
 use ibp_base::List;
 use ibp_field::Residue;
@@ -32,8 +36,8 @@ use sparse_poly::Poly;
 use std::alloc::Global;
 use toml::Table;
 
-/// The longest file, in bytes.
-pub const MAX_FILE: usize = 1_048_576;
+// One half modulo the prime.
+const HALF: u32 = 1_073_741_824;
 
 #[tactic(auto, unfolding(crate::specs::Family::table_of_bytes))]
 fn table_of_bytes(alloc: Global, bytes: &[u8]) -> Result<Table, FamilyFault>
@@ -70,11 +74,11 @@ fn shape_of(header: &HeaderKeys<'_>) -> Result<Shape, FileFault>
     ensures value { Returns shape_view result (shape_of (header_view header.now)) }
     ensures some { IfOk result (λ s. 1 ≤ s.variables) }
     ensures few { IfOk result (λ s. s.variables ≤ VARIABLES) }
-    ensures loops { IfOk result (λ s. s.loops ≤ 3) }
-    ensures legs { IfOk result (λ s. s.legs ≤ 8) }
+    ensures loops { IfOk result (λ s. s.loops ≤ LOOP_LIMIT) }
+    ensures legs { IfOk result (λ s. s.legs ≤ LEG_LIMIT) }
 {
-    let loops = natural(header.loops, 1, 3, FileFault::Shape)?;
-    let legs = natural(header.legs, 0, 8, FileFault::Shape)?;
+    let loops = natural(header.loops, 1, LOOP_LIMIT, FileFault::Shape)?;
+    let legs = natural(header.legs, 0, LEG_LIMIT, FileFault::Shape)?;
     let variables = natural(header.variables, 1, VARIABLES as u32, FileFault::Shape)?;
     if variables == loops * (loops + 1) / 2 + loops * legs {
         Ok(Shape {
@@ -89,24 +93,23 @@ fn shape_of(header: &HeaderKeys<'_>) -> Result<Shape, FileFault>
 
 // The exponent of the Baikov polynomial.
 fn gamma_of(dimension: Residue, shape: Shape) -> Residue
-    requires loops { shape.loops ≤ 3 }
-    requires legs { shape.legs ≤ 8 }
+    requires loops { shape.loops ≤ LOOP_LIMIT }
+    requires legs { shape.legs ≤ LEG_LIMIT }
     ensures { result ≡ gamma_of dimension (shape_view shape) }
 {
-    let half = Residue::of(1_073_741_824);
     dimension
         .sub(Residue::of(shape.loops + shape.legs + 1))
-        .mul(half)
+        .mul(Residue::of(HALF))
 }
 
 #[tactic(auto, unfolding(crate::specs::Family::bounds_of))]
 fn bounds_of(bounds: &BoundsKeys) -> Result<Bounds, FileFault>
     ensures { Returns (λ b. b) result (bounds_of (bounds_view bounds.now)) }
 {
-    let dots_cap = natural(bounds.dots_cap, 0, 20, FileFault::Limits)?;
-    let rank_cap = natural(bounds.rank_cap, 0, 20, FileFault::Limits)?;
-    let extra_dots = natural(bounds.extra_dots, 0, 5, FileFault::Limits)?;
-    let extra_rank = natural(bounds.extra_rank, 0, 5, FileFault::Limits)?;
+    let dots_cap = natural(bounds.dots_cap, 0, CAP_LIMIT, FileFault::Limits)?;
+    let rank_cap = natural(bounds.rank_cap, 0, CAP_LIMIT, FileFault::Limits)?;
+    let extra_dots = natural(bounds.extra_dots, 0, EXTRA_LIMIT, FileFault::Limits)?;
+    let extra_rank = natural(bounds.extra_rank, 0, EXTRA_LIMIT, FileFault::Limits)?;
     Ok(Bounds {
         dots_cap,
         rank_cap,
@@ -119,8 +122,8 @@ fn bounds_of(bounds: &BoundsKeys) -> Result<Bounds, FileFault>
 fn budget_of(budget: &BudgetKeys) -> Result<Budget, FileFault>
     ensures { Returns (λ b. b) result (budget_of (budget_view budget.now)) }
 {
-    let pairs = natural(budget.pairs, 0, 10_000_000, FileFault::Budget)?;
-    let candidates = natural(budget.candidates, 0, 20_000, FileFault::Budget)?;
+    let pairs = natural(budget.pairs, 0, PAIR_LIMIT, FileFault::Budget)?;
+    let candidates = natural(budget.candidates, 0, CANDIDATE_LIMIT, FileFault::Budget)?;
     Ok(Budget {
         pairs: u64::from(pairs),
         candidates: u64::from(candidates),

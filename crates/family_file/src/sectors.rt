@@ -10,11 +10,10 @@ ghost use Rattle.family_file.specs.Arrays.{place_in, are_distinct, sector_number
 use crate::arrays::{integer_in, list_in};
 use crate::fault::{FamilyFault, FileFault};
 use crate::numbers::natural;
+use crate::ranges::SECTOR_LIMIT;
 use sector_lattice::Sector;
 use std::alloc::Global;
 use toml::value::{Array, Value};
-
-const MOST_SECTORS: usize = 512;
 
 #[tactic(auto, unfolding(crate::specs::Arrays::place_in))]
 fn place_in(value: &Value, n: u8) -> Result<u32, FileFault>
@@ -111,7 +110,7 @@ pub fn zero_sectors_of(
     match values {
         None => Ok(Vec::new(alloc)),
         Some(values) => {
-            if values.len() > MOST_SECTORS {
+            if values.len() > SECTOR_LIMIT {
                 Err(FamilyFault::File(FileFault::ZeroSectors))
             } else {
                 collect_sectors(alloc, values, n)

@@ -1,0 +1,40 @@
+//! The limits of a family file.
+
+/// The greatest length of a file, in bytes.
+pub const MAX_FILE: usize = 1_048_576;
+
+/// The greatest length of a family's name, in bytes.
+pub const FAMILY_NAME_LIMIT: usize = 64;
+
+/// The greatest number of loops.
+pub const LOOP_LIMIT: u32 = 3;
+
+/// The greatest number of independent external momenta.
+pub const LEG_LIMIT: u32 = 8;
+
+/// The greatest number of numbers that have names.
+pub const NUMBER_LIMIT: usize = 64;
+
+/// The greatest number of zero sectors that are listed.
+pub const SECTOR_LIMIT: usize = 512;
+
+/// The greatest number of targets that are listed.
+pub const TARGET_LIMIT: usize = 1000;
+
+/// The least power of a target or a seed.
+pub const LEAST_POWER: i16 = -30;
+
+/// The greatest power of a target or a seed.
+pub const GREATEST_POWER: i16 = 30;
+
+/// The greatest cap of dots or of rank.
+pub const CAP_LIMIT: u32 = 20;
+
+/// The greatest number of extra dots or of extra rank.
+pub const EXTRA_LIMIT: u32 = 5;
+
+/// The greatest budget of pairs.
+pub const PAIR_LIMIT: u32 = 10_000_000;
+
+/// The greatest budget of candidates.
+pub const CANDIDATE_LIMIT: u32 = 20_000;
