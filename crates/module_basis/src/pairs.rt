@@ -1,5 +1,5 @@
-ghost use Rattle.std.specs.Prelude.{◌≡◌, ◌+◌, ◌^◌, ◌<◌, ◌≤◌, ◌↔◌, true, false, sum, length, List, [], ◌∷◌, IsNone, IfSome, IfOk, OnOk};
-ghost use Rattle.std.specs.List.{All, Contains};
+ghost use Rattle.std.specs.Prelude.{◌≡◌, ◌+◌, ◌^◌, ◌<◌, ◌↔◌, true, false, sum, length, IsNone, IfSome, IfOk, OnOk};
+ghost use Rattle.std.specs.List.{All};
 ghost use Rattle.mono_order.specs.declared.limits.TheConstants.{VARIABLES, RUN_DEGREE};
 ghost use Rattle.mono_order.specs.Term.{lcm_term};
 ghost use Rattle.module_vec.specs.ModuleVector.{IsMonic, IsVector, lead};

@@ -1,4 +1,4 @@
-ghost use Rattle.std.specs.Prelude.{◌≡◌, ◌+◌, ◌-◌, ◌<◌, ◌≤◌, ◌↔◌, length, sum, slice_index, slice_set, IsSome, IsNone, IfSome, IsTrue, replicate, All};
+ghost use Rattle.std.specs.Prelude.{◌≡◌, ◌+◌, ◌-◌, ◌<◌, ◌≤◌, ◌↔◌, sum, slice_index, slice_set, IsNone, IfSome, IsTrue, replicate, All};
 ghost use Rattle.ibp_algebra.specs.Exponents.{add_exponents, permute_exponents};
 ghost use Rattle.std.specs.Prelude.{ℕ, List};
 ghost use Rattle.std.specs.declared.cmp.Ordering.{Ordering};
@@ -204,11 +204,14 @@ fn sum_of(exponents: &[u16; VARIABLES]) -> u32
 
 /// An order of monomials, whose exponents have no upper bound in its laws.
 pub trait MonomialOrder {
+    /// The order of the lists of exponents.
     ghost order: { List ℕ → List ℕ → Ordering };
 
+    /// How the left monomial compares with the right one.
     fn compare(left: &Monomial, right: &Monomial) -> Ordering
         ensures { result ≡ order left.now right.now };
 
+    /// The laws of an order of monomials.
     ghost laws: { IsMonomialOrder VARIABLES order };
 }
 

@@ -10,20 +10,27 @@ use std::cmp::Ordering;
 
 /// An order of terms, whose exponents have no upper bound in its laws.
 pub trait TermOrder {
+    /// The order of the terms.
     ghost order: { TermValue → TermValue → Ordering };
 
+    /// The components whose terms are above those of all other components.
     ghost high: { ℕ → Bool };
 
+    /// A whole number that falls with the term, among high terms and among low ones.
     ghost height: { TermValue → ℕ };
 
+    /// A number above the heights of all terms of degree at most `MONO_DEGREE`.
     ghost bound: { ℕ };
 
+    /// How the left term compares with the right one.
     fn compare(left: &Term, right: &Term) -> Ordering
         ensures { result ≡ order left.now right.now };
 
+    /// Whether the component is high.
     fn is_high(component: u8) -> bool
         ensures { result ≡ high component };
 
+    /// The laws of an order of terms.
     ghost laws: { IsTermOrder VARIABLES order high height bound };
 }
 

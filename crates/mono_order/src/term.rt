@@ -4,7 +4,9 @@ use std::marker::Model;
 /// A component and a power product. Contracts see it as the pair of these.
 #[derive(Clone, Copy, PartialEq, Eq, Debug)]
 pub struct Term {
+    /// The number of the unit vector, from 0.
     pub component: u8,
+    /// The power product that stands at it.
     pub monomial: Monomial,
 }
 

@@ -1,5 +1,5 @@
 // The system of a relay in which each reached sector is done.
-ghost use Rattle.std.specs.Prelude.{◌≡◌, ◌≢◌, ◌↔◌, ◌≤◌, ◌<◌, ◌^◌, Ok, Err, IfOk, length};
+ghost use Rattle.std.specs.Prelude.{◌≡◌, ◌≢◌, ◌↔◌, ◌<◌, ◌^◌, Ok, Err, IfOk, length};
 ghost use Rattle.family_file.specs.FamilyView.{family_view};
 ghost use Rattle.relay_core.specs.Relay.{AllDone};
 ghost use Rattle.sector_job.specs.declared.outcome.Outcome.TheVariants as outcome;

@@ -15,8 +15,11 @@ use system_text::SectorBlock;
 /// The sectors with their bases, and all candidates with what they are made from, in candidate order.
 #[derive(Drop)]
 pub struct Gathered {
+    /// The sectors with their bases, in sector order.
     pub blocks: Vec<SectorBlock>,
+    /// What each candidate is made from.
     pub labels: Vec<Label>,
+    /// The candidates of all sectors.
     pub candidates: Vec<Row>,
 }
 

@@ -9,7 +9,9 @@ use sector_lattice::Integral;
 /// The seed of a candidate, and the number of its field, counted from 1.
 #[derive(Clone, Copy)]
 pub struct Label {
+    /// The seed.
     pub seed: Integral,
+    /// The number of the field in its sector's basis.
     pub field: u32,
 }
 

@@ -1,4 +1,4 @@
-ghost use Rattle.std.specs.Prelude.{◌≡◌, ◌↔◌, [], ◌∷◌, length, IsNone, IfNone, IfSome, IfOk, OnOk, OnErr};
+ghost use Rattle.std.specs.Prelude.{◌≡◌, ◌↔◌, [], ◌∷◌, length, IsNone, IfNone, IfSome, OnOk, OnErr};
 ghost use Rattle.std.specs.List.{Contains};
 ghost use Rattle.std.specs.List.Sorted.{IsStrictlySortedBy};
 ghost use Rattle.pair_queue.specs.Pairs.{compare_pairs, insert_pair};
@@ -13,8 +13,11 @@ use std::marker::{Model, PhantomData};
 /// The numbers of two elements of a run, counted from 1, and the least common multiple of their leads.
 #[derive(Clone, Copy, PartialEq, Eq, Debug)]
 pub struct Pair {
+    /// The number of the earlier element.
     pub first: u32,
+    /// The number of the later element.
     pub second: u32,
+    /// The least common multiple of the two leads.
     pub lcm: Term,
 }
 

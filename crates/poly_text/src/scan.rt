@@ -13,6 +13,7 @@ use crate::numbers::Numbers;
 use crate::symbol::{Named, Symbol};
 use mono_order::Monomial;
 
+/// Whether the byte is a space, a tab or a line end.
 pub fn is_blank(byte: u8) -> bool
     ensures { result ≡ is_blank byte }
 {

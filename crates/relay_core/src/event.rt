@@ -31,6 +31,8 @@ pub enum Event {
 /// A sector that a worker holds.
 #[derive(Clone, Copy, Debug, PartialEq, Eq)]
 pub struct Holding {
+    /// The sector.
     pub sector: Sector,
+    /// The number of the worker.
     pub worker: u32,
 }

@@ -1,8 +1,8 @@
 // The relay's state and its calls.
-ghost use Rattle.std.specs.Prelude.{◌≡◌, ◌≢◌, ◌↔◌, ℕ, ◌≤◌, ◌<◌, ◌^◌, ◌⊎◌, true, false, IsTrue, IsErr, IfOk, OnOk, OnErr, Ok, Err, Some, [], ◌∷◌, ◌++◌, length, slice_range, map, All};
+ghost use Rattle.std.specs.Prelude.{◌≡◌, ◌≢◌, ◌↔◌, ℕ, ◌≤◌, ◌<◌, ◌^◌, true, IsTrue, IsErr, IfOk, OnOk, OnErr, Ok, Err, Some, [], length, map, All};
 ghost use Rattle.std.specs.List.Sorted.{IsStrictlySortedBy};
-ghost use Rattle.sector_lattice.specs.Sectors.{integral_cmp, sector_cmp, Ascends};
-ghost use Rattle.relay_core.specs.Family.{book, IsReached, Adds, MeetsEquation};
+ghost use Rattle.sector_lattice.specs.Sectors.{sector_cmp, Ascends};
+ghost use Rattle.relay_core.specs.Family.{book, IsReached, MeetsEquation};
 ghost use Rattle.relay_core.specs.Relay.{holder_of, CanBeTaken, AllDone, Opens, Replays};
 ghost use Rattle.relay_core.specs.Facts.{LieBetween, IsHeldOrDone, IsFinal};
 ghost use Rattle.relay_core.specs.Jobs.{AreAlike};

@@ -2,7 +2,7 @@
 //! keys. Polynomials, vectors and rows are such lists, and differ in their keys alone.
 #![tactic(auto)]
 
-ghost use Rattle.std.specs.Prelude.{◌≡◌, [], ◌∷◌, ◌++◌, IfOk, IsPermutation};
+ghost use Rattle.std.specs.Prelude.{◌≡◌, [], ◌++◌, IfOk, IsPermutation};
 ghost use Rattle.std.specs.declared.cmp.Ordering.{Ordering};
 ghost use Rattle.std.specs.Ordering.{eq_by_cmp};
 ghost use Rattle.std.specs.Cmp.{IsTotalOrder};
@@ -15,13 +15,17 @@ use std::cmp::Ordering;
 
 /// An order on keys. Equal keys are identical.
 pub trait KeyOrder<K> {
+    /// The order.
     ghost order: { K → K → Ordering };
 
+    /// How the left key compares with the right one.
     fn compare(left: &K, right: &K) -> Ordering
         ensures { result ≡ order left.now right.now };
 
+    /// Any two keys compare, and one way.
     ghost total: { IsTotalOrder order };
 
+    /// Keys that compare equal are one key.
     ghost unique: { IsAntisymmetric order };
 }
 

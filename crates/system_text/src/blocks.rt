@@ -51,6 +51,7 @@ fn put_each(text: &mut Vec<u8>, blocks: &[SectorBlock]) -> Result<(), NoMemory>
     Ok(())
 }
 
+/// The line with their number, and then each block.
 pub fn put_blocks(text: &mut Vec<u8>, blocks: &[SectorBlock]) -> Result<(), NoMemory>
     ensures { OnOk result (text.new.items ≡ text.old.items
         ++ count_line (codes "sectors") blocks.now ++ flat_map block_text blocks.now) }

@@ -2,7 +2,7 @@
 ghost use Rattle.std.specs.Prelude.{◌≡◌, ◌++◌, IfOk, OnOk, codes};
 ghost use Rattle.std.specs.Fmt.{signed_decimal};
 ghost use Rattle.std.specs.List.{flat_map};
-ghost use Rattle.system_text.specs.Texts.{joined, sum_text, integral_text, row_term_text, row_text};
+ghost use Rattle.system_text.specs.Texts.{joined, integral_text, row_term_text, row_text};
 ghost use Rattle.system_text.specs.Systems.{line};
 
 use crate::numbers::{put_bytes, put_residue, put_signed};
@@ -36,6 +36,7 @@ fn put_powers(text: &mut Vec<u8>, powers: &[i16]) -> Result<(), NoMemory>
     }
 }
 
+/// The powers in square brackets, with a comma between each two.
 pub fn put_integral(text: &mut Vec<u8>, integral: &Integral) -> Result<(), NoMemory>
     ensures { OnOk result (text.new.items ≡ text.old.items ++ integral_text integral.now) }
 {
@@ -81,7 +82,7 @@ fn put_row(text: &mut Vec<u8>, row: &Row) -> Result<(), NoMemory>
     put_row_terms(text, row.terms())
 }
 
-// A line with a word and a row.
+/// A line with a word and a row.
 pub fn put_row_line(text: &mut Vec<u8>, word: &[u8], row: &Row) -> Result<(), NoMemory>
     ensures { OnOk result (text.new.items ≡ text.old.items
         ++ line (word.now ++ row_text row.now)) }

@@ -62,6 +62,7 @@ fn put_each(text: &mut Vec<u8>, reductions: &[Reduction]) -> Result<(), NoMemory
     Ok(())
 }
 
+/// The line with their number, and then each target with its reduced form and its weights.
 pub fn put_reductions(text: &mut Vec<u8>, reductions: &[Reduction]) -> Result<(), NoMemory>
     ensures { OnOk result (text.new.items ≡ text.old.items
         ++ count_line (codes "targets") reductions.now ++ flat_map reduction_text reductions.now) }

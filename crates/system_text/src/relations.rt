@@ -40,6 +40,7 @@ fn put_each(text: &mut Vec<u8>, relations: &[Written]) -> Result<(), NoMemory>
     Ok(())
 }
 
+/// The line with their number, and then each relation with its number, counted from 1.
 pub fn put_relations(text: &mut Vec<u8>, relations: &[Written]) -> Result<(), NoMemory>
     ensures { OnOk result (text.new.items ≡ text.old.items
         ++ count_line (codes "relations") relations.now ++ numbered relation_text relations.now) }

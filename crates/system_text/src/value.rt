@@ -10,7 +10,9 @@ use sparse_rows::Row;
 /// fields are numbered from 1.
 #[derive(PartialEq, Eq, Drop)]
 pub struct SectorBlock {
+    /// The sector.
     pub sector: Sector,
+    /// The fields in stripped form, field 1 first.
     pub fields: List<StrippedField>,
 }
 
@@ -19,9 +21,11 @@ pub struct SectorBlock {
 pub struct Written {
     /// The sector of the seed.
     pub sector: Sector,
+    /// The seed at which the identity is taken.
     pub seed: Integral,
     /// The number of the field in the sector's block, counted from 1.
     pub field: u32,
+    /// The identity, without the integrals of zero sectors.
     pub row: Row,
 }
 
@@ -29,7 +33,9 @@ pub struct Written {
 /// times the rows of the relations is the reduced row.
 #[derive(PartialEq, Eq, Drop)]
 pub struct Reduction {
+    /// The integral that is reduced.
     pub target: Integral,
+    /// Its reduced form, a row of integrals that no relation reduces further.
     pub reduced: Row,
     /// The numbers of relations, counted from 1, each with its weight.
     pub weights: List<(u32, Residue)>,
@@ -42,6 +48,7 @@ pub struct System {
     pub name: Name,
     /// The number of variables.
     pub n: u8,
+    /// The sectors with their bases, in sector order.
     pub sectors: List<SectorBlock>,
     /// The relations, numbered from 1.
     pub relations: List<Written>,
