@@ -11,7 +11,7 @@ use Rattle.ibp_algebra.specs.Polynomial.{Polynomial}
 use Rattle.mono_order.specs.declared.limits.TheConstants.{VARIABLES}
 use Rattle.poly_text.specs.declared.fault.TextFault.{TextFault}
 use Rattle.poly_text.specs.PolyText.{NumbersValue, value_in, text_answer}
-use Rattle.family_file.specs.declared.limits.TheConstants.{FILE_DEGREE}
+use Rattle.poly_text.specs.declared.limits.TheConstants.{DEGREE_LIMIT, TERM_LIMIT}
 use Rattle.family_file.specs.declared.fault.FileFault.{FileFault}
 use Rattle.family_file.specs.declared.fault.FileFault.TheVariants as faults
 use Rattle.family_file.specs.declared.need.Need.{Need}
@@ -49,7 +49,7 @@ text_in_read n most fault numbers text p e = or_fault_read n fault (text_answer 
 
 pub record IsReadTerm (n : ℕ) (term : List ℕ × ℕ) : Type 0 where
   pub variables : HasVariables n term.0
-  pub small : sum term.0 ≤ FILE_DEGREE
+  pub small : sum term.0 ≤ DEGREE_LIMIT
 
 pub padded_length : (n : ℕ) (exponents : List ℕ) → length exponents ≡ n → n ≤ VARIABLES → length (exponents ++ replicate (VARIABLES - n) 0) ≡ VARIABLES
 padded_length n exponents h most = omega (arith, length-append exponents (replicate (VARIABLES - n) 0), length-replicate {A = ℕ} (VARIABLES - n) 0, h, most)
@@ -65,10 +65,10 @@ term_is fault n most [] term e = absurd (cc)
 term_is fault n most (first ∷ others) term e =
     let coefficient = bind_ok (integer_in fault first) _ term e in
     let exponents = bind_ok (collect (exponent_in fault) others) _ term coefficient.1.1 in
-    let made = if_ok (length exponents.0 == n && nat_le (sum exponents.0) FILE_DEGREE) _ term fault exponents.1.1 in
-    let sides = both_are (length exponents.0 == n) (nat_le (sum exponents.0) FILE_DEGREE) made.0 in
+    let made = if_ok (length exponents.0 == n && nat_le (sum exponents.0) DEGREE_LIMIT) _ term fault exponents.1.1 in
+    let sides = both_are (length exponents.0 == n) (nat_le (sum exponents.0) DEGREE_LIMIT) made.0 in
     let many : length exponents.0 ≡ n = grind (arith, nat_tests, sides.0) in
-    let small : sum exponents.0 ≤ FILE_DEGREE = grind (arith, nat_tests, sides.1) in
+    let small : sum exponents.0 ≤ DEGREE_LIMIT = grind (arith, nat_tests, sides.1) in
     subst (IsReadTerm n) made.1 (record {
       variables = record {
         nine = padded_length n exponents.0 many most;
@@ -94,11 +94,11 @@ each_small n (term ∷ f) h = (h.0.small, each_small n f h.1)
 terms_read : (n : ℕ) → n ≤ VARIABLES → (fault : FileFault) (ds : List Data) (p : Polynomial) → terms_of fault n ds ≡ Ok p → IsRead n p
 unfolding terms_of
 terms_read n most fault ds p e =
-    let within = unless_ok (nat_lt 20000 (length ds)) _ fault p e in
+    let within = unless_ok (nat_lt TERM_LIMIT (length ds)) _ fault p e in
     let read = bind_ok (collect (term_in fault n) ds) _ p within.1 in
     let each = collect_each (IsReadTerm n) (term_in fault n) (term_in_is fault n most) ds read.0 read.1.0 in
     let many : length read.0 ≡ length ds = collect_length (term_in fault n) ds read.0 read.1.0 in
-    let few : length ds ≤ 20000 = grind (arith, nat_tests, within.0) in
+    let few : length ds ≤ TERM_LIMIT = grind (arith, nat_tests, within.0) in
     subst (IsRead n) (ok_is _ p read.1.1) (read_normal n read.0 (each_variables n read.0 each) (each_small n read.0 each) (omega (arith, normal_form_length read.0, many, few)))
 
 polynomial_read : (n : ℕ) → n ≤ VARIABLES → (fault : FileFault) (numbers : NumbersValue) (key : PolynomialData) (p : Polynomial) → polynomial_in fault n numbers key ≡ Ok p → IsRead n p

@@ -21,14 +21,14 @@ use Rattle.mono_order.specs.declared.limits.TheConstants.{VARIABLES}
 use Rattle.poly_text.specs.declared.fault.TextFault.{TextFault}
 use Rattle.poly_text.specs.Tree.{Tree}
 use Rattle.poly_text.specs.Value.{constant, constant_term, is_zero, within_terms, sum_of, difference_of, product_of, quotient_of, negative_of, then_value, both_values, power_of, known_value, value}
-use Rattle.family_file.specs.declared.limits.TheConstants.{FILE_DEGREE}
+use Rattle.poly_text.specs.declared.limits.TheConstants.{DEGREE_LIMIT, TERM_LIMIT}
 use Rattle.family_file.specs.Shapes.{HasVariables, IsPolynomial}
 use Rattle.family_file.proofs.Binds.{unless_ok, ok_is}
 
 -- a polynomial of a file
 pub record IsRead (n : ℕ) (p : Polynomial) : Type 0 where
-  pub polynomial : IsPolynomial n FILE_DEGREE p
-  pub few : length p ≤ 20000
+  pub polynomial : IsPolynomial n DEGREE_LIMIT p
+  pub few : length p ≤ TERM_LIMIT
 
 -- ---- lengths
 
@@ -59,7 +59,7 @@ scale_length c f = length-map f (λ term. (term.0, c * term.1))
 -- ---- keys
 
 abbrev pub Small : List ℕ → Type 0
-Small m = sum m ≤ FILE_DEGREE
+Small m = sum m ≤ DEGREE_LIMIT
 
 times_keys : (P Q R : List ℕ → Type 0) → ((a b : List ℕ) → P a → Q b → R (add_exponents a b)) → (k : List ℕ) (c : ℕ) (g : Polynomial) → P k → AllKeys Q g → AllKeys R (times_term add_exponents (k, c) g)
 times_keys P Q R both k c [] p h = tt
@@ -82,19 +82,19 @@ nothing_left : (f : Polynomial) → AllKeys Small (multiply f [])
 nothing_left [] = tt
 nothing_left (t ∷ f) = nothing_left f
 
-joined_degrees : (d e : ℕ) → d + e ≤ FILE_DEGREE → (a b : List ℕ) → sum a ≤ d → sum b ≤ e → Small (add_exponents a b)
+joined_degrees : (d e : ℕ) → d + e ≤ DEGREE_LIMIT → (a b : List ℕ) → sum a ≤ d → sum b ≤ e → Small (add_exponents a b)
 joined_degrees d e fits a b h k = omega (arith, sum-add_exponents a b)
 
-product_small : (f g : Polynomial) → (not (is_zero f) && not (is_zero g) && nat_lt FILE_DEGREE (degree_of f + degree_of g)) ≡ false → AllKeys Small (multiply f g)
+product_small : (f g : Polynomial) → (not (is_zero f) && not (is_zero g) && nat_lt DEGREE_LIMIT (degree_of f + degree_of g)) ≡ false → AllKeys Small (multiply f g)
 product_small [] g h = tt
 product_small (t ∷ f) [] h = nothing_left (t ∷ f)
 product_small (t ∷ f) (u ∷ g) h =
-    let fits : degree_of (t ∷ f) + degree_of (u ∷ g) ≤ FILE_DEGREE = grind (arith, nat_tests, h) in
+    let fits : degree_of (t ∷ f) + degree_of (u ∷ g) ≤ DEGREE_LIMIT = grind (arith, nat_tests, h) in
     product_keys (λ m. sum m ≤ degree_of (t ∷ f)) (λ m. sum m ≤ degree_of (u ∷ g)) Small (joined_degrees (degree_of (t ∷ f)) (degree_of (u ∷ g)) fits) (t ∷ f) (u ∷ g) (AllKeys-degree_of (t ∷ f)) (AllKeys-degree_of (u ∷ g))
 
 -- ---- values
 
-pub read_normal : (n : ℕ) (f : Polynomial) → AllKeys (HasVariables n) f → AllKeys Small f → length (normal_form deg_rev_lex f) ≤ 20000 → IsRead n (normal_form deg_rev_lex f)
+pub read_normal : (n : ℕ) (f : Polynomial) → AllKeys (HasVariables n) f → AllKeys Small f → length (normal_form deg_rev_lex f) ≤ TERM_LIMIT → IsRead n (normal_form deg_rev_lex f)
 read_normal n f variables small few = record {
   polynomial = record {
     canonical = IsCanonical-normal_form deg_rev_lex deg_rev_lex_total deg_rev_lex_unique f;
@@ -112,8 +112,8 @@ read_scaled n c f h =
 
 within : (n at : ℕ) (f p : Polynomial) → AllKeys (HasVariables n) f → AllKeys Small f → within_terms at (normal_form deg_rev_lex f) ≡ Ok p → IsRead n p
 within n at f p variables small h =
-    let found = unless_ok (nat_lt 20000 (length (normal_form deg_rev_lex f))) (Ok (normal_form deg_rev_lex f)) (TextFault.TermsOver at) p h in
-    let few : length (normal_form deg_rev_lex f) ≤ 20000 = grind (arith, nat_tests, found.0) in
+    let found = unless_ok (nat_lt TERM_LIMIT (length (normal_form deg_rev_lex f))) (Ok (normal_form deg_rev_lex f)) (TextFault.TermsOver at) p h in
+    let few : length (normal_form deg_rev_lex f) ≤ TERM_LIMIT = grind (arith, nat_tests, found.0) in
     subst (IsRead n) (ok_is _ p found.1) (read_normal n f variables small few)
 
 read_sum : (n at : ℕ) (f g p : Polynomial) → IsRead n f → IsRead n g → sum_of at f g ≡ Ok p → IsRead n p
@@ -128,7 +128,7 @@ read_difference n at f g p h k e =
 
 read_product : (n at : ℕ) (f g p : Polynomial) → IsRead n f → IsRead n g → product_of at f g ≡ Ok p → IsRead n p
 read_product n at f g p h k e =
-    let found = unless_ok (not (is_zero f) && not (is_zero g) && nat_lt FILE_DEGREE (degree_of f + degree_of g)) (within_terms at (normal_form deg_rev_lex (multiply f g))) (TextFault.DegreeOver at) p e in
+    let found = unless_ok (not (is_zero f) && not (is_zero g) && nat_lt DEGREE_LIMIT (degree_of f + degree_of g)) (within_terms at (normal_form deg_rev_lex (multiply f g))) (TextFault.DegreeOver at) p e in
     within n at (multiply f g) p
     (product_keys (HasVariables n) (HasVariables n) (HasVariables n) (joined_variables n) f g h.polynomial.variables k.polynomial.variables)
     (product_small f g found.0) found.1
@@ -147,7 +147,7 @@ zeros_at (suc k) (suc i) = zeros_at k i
 pub no_exponents : (n : ℕ) → HasVariables n (replicate VARIABLES 0)
 no_exponents n = record { nine = refl; none_beyond = λ i le. zeros_at VARIABLES i }
 
-no_degree : sum (replicate VARIABLES 0) ≤ FILE_DEGREE
+no_degree : sum (replicate VARIABLES 0) ≤ DEGREE_LIMIT
 no_degree = let none : sum (replicate VARIABLES 0) ≡ 0 = refl in omega (arith, none)
 
 pub read_constant : (n c : ℕ) → IsRead n (constant c)

@@ -14,7 +14,7 @@ use Rattle.poly_text.specs.Tree.{Tree}
 use Rattle.poly_text.specs.Grammar.{tree_of}
 use Rattle.poly_text.specs.PolyText.{is_variable_name, variable_named, names_of, tree_value, text_answer}
 use Rattle.poly_text.specs.Value.{constant, variable}
-use Rattle.family_file.specs.declared.limits.TheConstants.{FILE_DEGREE}
+use Rattle.poly_text.specs.declared.limits.TheConstants.{DEGREE_LIMIT}
 use Rattle.family_file.specs.Shapes.{HasVariables}
 use Rattle.family_file.proofs.Binds.{both_are}
 use Rattle.family_file.proofs.PolynomialLimits.{IsRead, no_exponents, read_constant, NamesAre, value_read}
@@ -25,7 +25,7 @@ variable_exponents n k below few = record {
   none_beyond = λ i le. get_or-set_other (replicate VARIABLES 0) k i 1 0 (λ same. omega (arith, below, le, same)) ∙ (no_exponents n).none_beyond i le;
 }
 
-variable_degree : (k : ℕ) → k < VARIABLES → sum (slice_set (replicate VARIABLES 0) k 1) ≤ FILE_DEGREE
+variable_degree : (k : ℕ) → k < VARIABLES → sum (slice_set (replicate VARIABLES 0) k 1) ≤ DEGREE_LIMIT
 variable_degree k below =
     let none : sum (replicate VARIABLES 0) ≡ 0 = refl in
     omega (arith, sum-set (replicate VARIABLES 0) k 1 below, none)

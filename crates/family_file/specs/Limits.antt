@@ -14,7 +14,7 @@ use Rattle.ibp_algebra.specs.Laurent.{same_powers}
 use Rattle.ibp_algebra.specs.Polynomial.{Polynomial}
 use Rattle.mono_order.specs.declared.limits.TheConstants.{VARIABLES}
 use Rattle.sector_lattice.specs.declared.sector.Sector.{Sector}
-use Rattle.family_file.specs.declared.limits.TheConstants.{FILE_DEGREE}
+use Rattle.poly_text.specs.declared.limits.TheConstants.{DEGREE_LIMIT, TERM_LIMIT}
 use Rattle.family_file.specs.declared.ranges.TheConstants.{CAP_LIMIT, EXTRA_LIMIT, PAIR_LIMIT, CANDIDATE_LIMIT, TARGET_LIMIT, SECTOR_LIMIT}
 use Rattle.family_file.specs.declared.parts.Bounds.{Bounds}
 use Rattle.family_file.specs.declared.parts.Budget.{Budget}
@@ -32,16 +32,16 @@ pub record BudgetWithin (budget : Budget) : Type 0 where
   pub candidates : budget.candidates ≤ CANDIDATE_LIMIT
 
 pub record IsProbe (n : ℕ) (probe : Probe) : Type 0 where
-  pub field : IsField n FILE_DEGREE probe.field.a probe.field.b
-  pub few_terms : All (λ polynomial. length polynomial ≤ 20000) probe.field.a
-  pub few_factor_terms : length probe.field.b ≤ 20000
+  pub field : IsField n DEGREE_LIMIT probe.field.a probe.field.b
+  pub few_terms : All (λ polynomial. length polynomial ≤ TERM_LIMIT) probe.field.a
+  pub few_factor_terms : length probe.field.b ≤ TERM_LIMIT
   pub seed : ArePowers n probe.seed
 
 pub record FamilyLimits (n : ℕ) (baikov : Polynomial) (targets : List (List ℤ)) (zero : List Sector) (bounds : Bounds) (budget : Budget) (probe : Option Probe) : Type 0 where
   pub some_variables : 1 ≤ n
   pub few_variables : n ≤ VARIABLES
-  pub polynomial : IsPolynomial n FILE_DEGREE baikov
-  pub few_terms : length baikov ≤ 20000
+  pub polynomial : IsPolynomial n DEGREE_LIMIT baikov
+  pub few_terms : length baikov ≤ TERM_LIMIT
   pub not_zero : baikov ≢ []
   pub few_targets : length targets ≤ TARGET_LIMIT
   pub target_powers : All (ArePowers n) targets

@@ -13,7 +13,7 @@ use Rattle.ibp_algebra.specs.Polynomial.{Polynomial}
 use Rattle.mono_order.specs.declared.limits.TheConstants.{VARIABLES}
 use Rattle.poly_text.specs.declared.fault.TextFault.{TextFault}
 use Rattle.poly_text.specs.PolyText.{NumbersValue, value_in, text_answer, number_answer, is_number_name}
-use Rattle.family_file.specs.declared.limits.TheConstants.{FILE_DEGREE}
+use Rattle.poly_text.specs.declared.limits.TheConstants.{DEGREE_LIMIT, TERM_LIMIT}
 use Rattle.family_file.specs.declared.ranges.TheConstants.{NUMBER_LIMIT}
 use Rattle.family_file.specs.declared.fault.FileFault.{FileFault}
 use Rattle.family_file.specs.declared.fault.FileFault.TheVariants.{Number}
@@ -63,7 +63,7 @@ numbers_of (Some table) = numbers_in table
 unfoldable pub exponent_in : FileFault → Data → Result ℕ FileFault
 exponent_in fault d = do
   z ← integer_in fault d
-  natural fault 0 FILE_DEGREE z
+  natural fault 0 DEGREE_LIMIT z
 
 -- a coefficient and the exponents of n variables
 unfoldable pub term_from : FileFault → ℕ → List Data → Result (List ℕ × ℕ) FileFault
@@ -71,7 +71,7 @@ term_from fault n [] = Err fault
 term_from fault n (first ∷ others) = do
   coefficient ← integer_in fault first
   exponents ← collect (exponent_in fault) others
-  if length exponents == n && nat_le (sum exponents) FILE_DEGREE then Ok (exponents ++ replicate (VARIABLES - n) 0, int_mod coefficient) else Err fault
+  if length exponents == n && nat_le (sum exponents) DEGREE_LIMIT then Ok (exponents ++ replicate (VARIABLES - n) 0, int_mod coefficient) else Err fault
 
 unfoldable pub term_in : FileFault → ℕ → Data → Result (List ℕ × ℕ) FileFault
 term_in fault n d = do
@@ -80,7 +80,7 @@ term_in fault n d = do
 
 -- the sum of the terms of a list
 unfoldable pub terms_of : FileFault → ℕ → List Data → Result Polynomial FileFault
-terms_of fault n ds = if nat_lt 20000 (length ds) then Err fault else do
+terms_of fault n ds = if nat_lt TERM_LIMIT (length ds) then Err fault else do
   terms ← collect (term_in fault n) ds
   Ok (normal_form deg_rev_lex terms)
 

@@ -7,7 +7,6 @@ mod document;
 mod family;
 mod fault;
 pub mod laws;
-mod limits;
 mod name;
 mod named;
 mod need;
@@ -22,7 +21,6 @@ mod zero;
 
 pub use family::Family;
 pub use fault::{FamilyFault, FileFault};
-pub use limits::FILE_DEGREE;
 pub use name::Name;
 pub use need::Need;
 pub use parts::{Bounds, Budget, Field, Probe, StrippedField};

@@ -5,25 +5,23 @@ ghost use Rattle.ibp_algebra.specs.Exponents.{deg_rev_lex};
 ghost use Rattle.ibp_algebra.specs.FormalSum.{normal_form};
 ghost use Rattle.toml.specs.View.{view};
 ghost use Rattle.mono_order.specs.declared.limits.TheConstants.{VARIABLES};
-ghost use Rattle.family_file.specs.declared.limits.TheConstants.{FILE_DEGREE};
+ghost use Rattle.poly_text.specs.declared.limits.TheConstants.{DEGREE_LIMIT};
 ghost use Rattle.family_file.specs.KeyViews.{number_view, polynomial_view};
 ghost use Rattle.family_file.specs.Reading.{Returns, Gives, fault_in, collect};
 ghost use Rattle.family_file.specs.Polynomials.{text_in, number_text_in, residue_in, exponent_in, term_from, term_in, terms_of, polynomial_in, polynomial_value, field_of};
 
 use crate::arrays::{integer_in, list_in};
 use crate::fault::{FamilyFault, FileFault};
-use crate::limits::FILE_DEGREE;
 use crate::numbers::small;
 use crate::table::{NumberKey, PolynomialKey, polynomial};
 use ibp_base::NoMemory;
 use ibp_field::Residue;
 use mono_order::{Monomial, VARIABLES};
-use poly_text::{Numbers, TextFault, parse_number, parse_poly};
+use poly_text::{DEGREE_LIMIT, Numbers, TERM_LIMIT, TextFault, parse_number, parse_poly};
 use sparse_poly::Poly;
 use std::alloc::Global;
 use toml::value::Value;
 
-const MOST_TERMS: usize = 20_000;
 
 // Why a text stands for nothing, in a place that has this fault.
 fn fault_in(error: TextFault, fault: FileFault) -> FamilyFault
@@ -87,7 +85,7 @@ pub fn residue_in(
 fn exponent_in(value: &Value, fault: FileFault) -> Result<u16, FileFault>
     ensures { Returns (λ n. n) result (exponent_in fault (view value.now)) }
 {
-    small(integer_in(value, fault)?, FILE_DEGREE, fault)
+    small(integer_in(value, fault)?, DEGREE_LIMIT, fault)
 }
 
 fn collect_exponents(
@@ -118,7 +116,7 @@ fn degree_of(exponents: &[u16]) -> u16
 // The monomial of the exponents of the first variables.
 fn monomial_of(exponents: &[u16]) -> Monomial
     requires few { length exponents.now ≤ VARIABLES }
-    requires within { sum exponents.now ≤ FILE_DEGREE }
+    requires within { sum exponents.now ≤ DEGREE_LIMIT }
     ensures { result ≡ exponents.now ++ replicate (VARIABLES - length exponents.now) 0 }
 {
     let mut all = [0; VARIABLES];
@@ -144,7 +142,7 @@ fn term_from(
     };
     let coefficient = integer_in(first, fault)?;
     let exponents = collect_exponents(alloc, others, fault)?;
-    if exponents.len() == usize::from(n) && degree_of(&exponents) <= FILE_DEGREE {
+    if exponents.len() == usize::from(n) && degree_of(&exponents) <= DEGREE_LIMIT {
         Ok((monomial_of(&exponents), Residue::from_i64(coefficient)))
     } else {
         Err(FamilyFault::File(fault))
@@ -193,7 +191,7 @@ fn terms_of(alloc: Global, values: &[Value], n: u8, fault: FileFault) -> Result<
     requires { n ≤ VARIABLES }
     ensures { Gives (λ p. p) result (terms_of fault n (map view values.now)) }
 {
-    if values.len() > MOST_TERMS {
+    if values.len() > TERM_LIMIT {
         return Err(FamilyFault::File(fault));
     }
     let terms = collect_terms(alloc, values, n, fault)?;

@@ -4,7 +4,7 @@ ghost use Rattle.ibp_algebra.specs.Exponents.{deg_rev_lex};
 ghost use Rattle.ibp_algebra.specs.FormalSum.{IsCanonical};
 ghost use Rattle.ibp_algebra.specs.Polynomial.{SamePolynomial, degree_of, derivative_along, multiply};
 ghost use Rattle.mono_order.specs.declared.limits.TheConstants.{MONO_DEGREE, VARIABLES};
-ghost use Rattle.family_file.specs.declared.limits.TheConstants.{FILE_DEGREE};
+ghost use Rattle.poly_text.specs.declared.limits.TheConstants.{DEGREE_LIMIT};
 ghost use Rattle.family_file.specs.Shapes.{IsPolynomial};
 ghost use Rattle.ibp_relation.specs.Conditions.{IsDivided, IsFirstUndivided};
 ghost use Rattle.ibp_relation.specs.Shifts.{HasDegree};
@@ -33,9 +33,9 @@ pub fn first_undivided(a: &[Poly], seed: &Integral) -> Option<u8>
 // Whether the sum over i of a_i times the derivative of P by z_i equals b times P.
 pub fn is_tangent(alloc: Global, baikov: &Poly, a: &[Poly], b: &Poly) -> Result<bool, NoMemory>
     requires few { length a.now ≤ VARIABLES }
-    requires baikov { HasDegree FILE_DEGREE baikov.now }
-    requires degrees { All (HasDegree FILE_DEGREE) a.now }
-    requires degree { HasDegree FILE_DEGREE b.now }
+    requires baikov { HasDegree DEGREE_LIMIT baikov.now }
+    requires degrees { All (HasDegree DEGREE_LIMIT) a.now }
+    requires degree { HasDegree DEGREE_LIMIT b.now }
     ensures { IfOk result (λ r. IsTrue r ↔ SamePolynomial (derivative_along a.now baikov.now) (multiply b.now baikov.now)) }
 {
     let mut sum = Poly::zero(alloc);

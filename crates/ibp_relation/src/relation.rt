@@ -5,7 +5,7 @@ ghost use Rattle.ibp_algebra.specs.Identity.{in_sector_of, IsIdentityRow};
 ghost use Rattle.mono_order.specs.declared.limits.TheConstants.{MONO_DEGREE, RUN_DEGREE};
 ghost use Rattle.sector_lattice.specs.Sectors.{integral_cmp};
 ghost use Rattle.sparse_rows.specs.Rows.{is_zero_integral};
-ghost use Rattle.family_file.specs.declared.limits.TheConstants.{FILE_DEGREE};
+ghost use Rattle.poly_text.specs.declared.limits.TheConstants.{DEGREE_LIMIT};
 ghost use Rattle.family_file.specs.Shapes.{IsField, ArePowers};
 ghost use Rattle.ibp_relation.specs.Conditions.{IsDivided, IsFirstUndivided, IsTangent, NoneRises};
 ghost use Rattle.ibp_relation.specs.Shifts.{HasDegree};
@@ -51,7 +51,7 @@ pub fn identity(
     field: &Field,
     seed: &Integral,
 ) -> Result<Row, IdentityFault>
-    requires field { IsField family.now.n FILE_DEGREE field.now.a field.now.b }
+    requires field { IsField family.now.n DEGREE_LIMIT field.now.a field.now.b }
     requires seed { ArePowers family.now.n seed.now }
     ensures row { IfOk result (λ row. IsIdentityRow family.now.n family.now.gamma family.now.baikov field.now.a seed.now (is_zero_integral family.now.zero) row) }
     ensures canonical { IfOk result (λ row. IsCanonical integral_cmp row) }

@@ -3,7 +3,7 @@ use Rattle.std.proofs.Common.{◌≡◌, List, sym, ap, subst, ◌∙◌}
 use Rattle.ibp_algebra.specs.Identity.{IsIdentityRow}
 use Rattle.sparse_rows.specs.Rows.{is_zero_integral}
 use Rattle.family_file.specs.declared.parts.Probe.{Probe}
-use Rattle.family_file.specs.declared.limits.TheConstants.{FILE_DEGREE}
+use Rattle.poly_text.specs.declared.limits.TheConstants.{DEGREE_LIMIT}
 use Rattle.family_file.proofs.FamilyLimits.{accepted_within}
 use Rattle.ibp_relation.proofs.Outcomes.{one_row}
 use Rattle.neatibp.specs.Identity.{row_line}
@@ -24,7 +24,7 @@ one_text command.Identity input family text other is first second =
     let moved : IsIdentityRow family.n family.gamma family.baikov probe.field.a probe.seed (is_zero_integral family.zero) second.row =
     subst (λ (p : Probe). IsIdentityRow family.n family.gamma family.baikov p.field.a p.seed (is_zero_integral family.zero) second.row) (same_probe family second.is_row.probe probe second.is_row.given first.is_row.given) second.is_row.identity in
     let rows : first.row ≡ second.row =
-    one_row family.n FILE_DEGREE family.gamma family.baikov probe.field.a probe.seed (is_zero_integral family.zero) first.row second.row
+    one_row family.n DEGREE_LIMIT family.gamma family.baikov probe.field.a probe.seed (is_zero_integral family.zero) first.row second.row
     limits.few_variables limits.polynomial limits.not_zero first.is_row.canonical second.is_row.canonical first.is_row.identity moved in
     first.line ∙ ap row_line rows ∙ sym second.line
 one_text (command.Basis number) input family text other is first second =

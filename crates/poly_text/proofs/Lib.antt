@@ -1,6 +1,7 @@
 pub mod Finding
 pub mod Values
-pub mod Sums
+pub mod TermMaps
+pub mod RunningSums
 pub mod Scanning
 pub mod Simulation
 pub mod Steps

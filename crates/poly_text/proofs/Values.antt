@@ -1,6 +1,6 @@
 -- What the operators give is the canonical list that their definitions name.
 use Rattle.std.proofs.Common.{◌≡◌, ℕ, zero, suc, ◌+◌, ◌*◌, ◌-◌, ◌<◌, ◌≤◌, List, [], ◌∷◌, ◌++◌, refl, sym, ap, subst, ◌∙◌, arith}
-use Rattle.std.specs.Prelude.{Result, Ok, Err, IfOk, Some, slice_get, cond, sum}
+use Rattle.std.specs.Prelude.{Result, Ok, Err, IfOk, Some, slice_get, cond}
 use Rattle.std.proofs.lemmas.Bool.{le-ltb}
 use Rattle.ibp_field.specs.Arithmetic.{IsCongruent, mul_mod, inverse_mod}
 use Rattle.ibp_field.proofs.Congruence.{IsCongruent-refl, IsCongruent-sym, IsCongruent-trans, IsCongruent-mul, IsCongruent-from_eq}
@@ -14,7 +14,7 @@ use Rattle.ibp_algebra.proofs.SumLaws.{SameCoefficients-refl, SameCoefficients-s
 use Rattle.ibp_algebra.proofs.NormalForm.{IsCanonical-normal_form, SameCoefficients-normal_form}
 use Rattle.ibp_algebra.proofs.PolynomialLaws.{same_polynomials, SamePolynomial-append}
 use Rattle.poly_text.specs.declared.fault.TextFault.{TextFault}
-use Rattle.poly_text.specs.Value.{within_terms, difference_of, product_of, quotient_of, power_of, then_value}
+use Rattle.poly_text.specs.Value.{within_terms, product_of, quotient_of, power_of, then_value}
 
 pub same_normal_form : (f : Polynomial) → SamePolynomial (normal_form deg_rev_lex f) f
 same_normal_form f = SameCoefficients-normal_form deg_rev_lex deg_rev_lex_total deg_rev_lex_unique same_exponents exponents_decide f
@@ -43,13 +43,12 @@ pub single_result : {E : Type 0} (r : Result Polynomial E) (m k : List ℕ) (c d
 single_result (Ok p) m k c d same canonical is value = single_is p m k c canonical same is ∙ ap (λ (n : ℕ). with_term (k, n) []) value
 single_result (Err e) m k c d same canonical is value = tt
 
-pub difference_is : (at : ℕ) (f g negative sum : Polynomial) (v : Result Polynomial TextFault) → negative ≡ normal_form deg_rev_lex (scale 2147483646 g)
-    → sum ≡ normal_form deg_rev_lex (f ++ negative) → v ≡ within_terms at sum → v ≡ difference_of at f g
-difference_is at f g negative sum v is_negative is_sum is =
-    let parts : SamePolynomial (f ++ normal_form deg_rev_lex (scale 2147483646 g)) (f ++ scale 2147483646 g) =
-    SamePolynomial-append (SameCoefficients-refl same_exponents f) (same_normal_form (scale 2147483646 g))
-    in
-    is ∙ ap (within_terms at) (is_sum ∙ ap (λ (h : Polynomial). normal_form deg_rev_lex (f ++ h)) is_negative ∙ normal_of_same _ _ parts)
+-- a multiple may be made canonical before it is added
+pub added_multiple : (f g multiple : Polynomial) (factor : ℕ) → multiple ≡ normal_form deg_rev_lex (scale factor g)
+    → normal_form deg_rev_lex (f ++ multiple) ≡ normal_form deg_rev_lex (f ++ scale factor g)
+added_multiple f g multiple factor is =
+    ap (λ (h : Polynomial). normal_form deg_rev_lex (f ++ h)) is
+    ∙ normal_of_same _ _ (SamePolynomial-append (SameCoefficients-refl same_exponents f) (same_normal_form (scale factor g)))
 
 same_scale : (a b : ℕ) (f : Polynomial) → IsCongruent a b → SamePolynomial (scale a f) (scale b f)
 same_scale a b f h =

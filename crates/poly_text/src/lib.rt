@@ -2,11 +2,13 @@
 #![tactic(auto)]
 
 mod fault;
+mod key;
 pub mod laws;
 mod limits;
 mod numbers;
 mod parse;
 mod reader;
+mod running_sum;
 mod scan;
 mod step;
 mod sum;

@@ -147,7 +147,8 @@ fn a_value_has_few_terms(rt: HostRuntime) -> Result<(), Fail> {
     Ok(())
 }
 
-// The power has 11,440 terms, none of which stands in the power times z1^8.
+// The seventh power has 11,440 terms, none of which stands in that power times z1^8. The last sum has 20,000 terms
+// before z8^20 is taken away, as many with z6^20, and one more at its end.
 #[test]
 fn a_sum_has_few_terms(rt: HostRuntime) -> Result<(), Fail> {
     let numbers = Numbers::empty(rt.alloc());
@@ -159,6 +160,10 @@ fn a_sum_has_few_terms(rt: HostRuntime) -> Result<(), Fail> {
         (
             "z2^9-1+(z1+z2+z3+z4+z5+z6+z7+z8+z9+1)^7+z1^8*(z1+z2+z3+z4+z5+z6+z7+z8+z9+1)^7",
             Err(TextFault::TermsOver { at: 39 }),
+        ),
+        (
+            "z1^8*(z1+z2+z3+z4+z5+z6+z7+z8+z9+1)^6+(z1+z2+z3+z4+z5+z6+z7+z8+z9+1)^7+z2^14*(z1+z2+z3+z4+z5+z6+z7+z8+z9+1)^5+z3^14*(z1+z2+z3+z4+z5+z6+z7+z8+z9+1)^4+z4^14*(z1+z2+z3+z4+z5+z6+z7+z8+z9+1)^4+z5^16*(z1+z2+z3+z4+z5+z6+z7+z8+z9+1)^2+z6^16*(z1+z2+z3+z4+z5+z6+z7+z8+z9+1)^2+z7^20*(z1+z2+z3+z4+z5+z6+z7+z8+z9+1)+z5^20+z8^20+z9^20-z8^20+z6^20+z6^19",
+            Err(TextFault::TermsOver { at: 332 }),
         ),
     ];
     for (text, answer) in sums {

@@ -41,8 +41,8 @@ fn within_terms(value: Poly, at: u32) -> Operand
     }
 }
 
-// The multiple of a polynomial.
-fn scaled(alloc: Global, f: &Poly, by: Residue) -> Result<Poly, NoMemory>
+/// The multiple of a polynomial.
+pub fn scaled(alloc: Global, f: &Poly, by: Residue) -> Result<Poly, NoMemory>
     ensures { IfOk result (λ p. p ≡ normal_form deg_rev_lex (scale by f.now)) }
 {
     f.scale(alloc, by)

@@ -3,7 +3,7 @@ use Rattle.ibp_algebra.specs.FormalSum.{IsCanonical}
 use Rattle.ibp_algebra.specs.Exponents.{deg_rev_lex}
 use Rattle.std.proofs.lemmas.Bool.Decides.{Decides-at}
 use Rattle.sparse_poly.specs.Equality.{one_polynomial-Decides}
-use Rattle.family_file.specs.declared.limits.TheConstants.{FILE_DEGREE}
+use Rattle.poly_text.specs.declared.limits.TheConstants.{DEGREE_LIMIT}
 use Rattle.ibp_relation.specs.Shifts.{HasDegree}
 use Rattle.ibp_relation.proofs.Degrees.{HasDegree-derivative, degree_within}
 use Rattle.ibp_relation.proofs.Tangents.{along_step, Decides-tangent}
@@ -13,13 +13,13 @@ pub product-requires : goal.product-requires
 product-requires c =
     let i = c.loop-i.i in
     let derived = c.in_ok-derivative.derivative in
-    let derived_degree = degree_within FILE_DEGREE derived (HasDegree-derivative FILE_DEGREE (i + 1 - 1) derived c.args.baikov.now c.in_ok-derivative.ensures.canonical c.in_ok-derivative.ensures.derivative c.requires.baikov) in
-    let degree = degree_within FILE_DEGREE c.index-a-i.result (subst (HasDegree FILE_DEGREE) (sym c.index-a-i.is) (c.requires.degrees i c.index-a-i.result c.loop-i-test.true)) in
+    let derived_degree = degree_within DEGREE_LIMIT derived (HasDegree-derivative DEGREE_LIMIT (i + 1 - 1) derived c.args.baikov.now c.in_ok-derivative.ensures.canonical c.in_ok-derivative.ensures.derivative c.requires.baikov) in
+    let degree = degree_within DEGREE_LIMIT c.index-a-i.result (subst (HasDegree DEGREE_LIMIT) (sym c.index-a-i.is) (c.requires.degrees i c.index-a-i.result c.loop-i-test.true)) in
     omega (arith, derived_degree, degree)
 
 pub product-requires-2 : goal.product-requires-2
 product-requires-2 c =
-    omega (arith, degree_within FILE_DEGREE c.args.b.now c.requires.degree, degree_within FILE_DEGREE c.args.baikov.now c.requires.baikov)
+    omega (arith, degree_within DEGREE_LIMIT c.args.b.now c.requires.degree, degree_within DEGREE_LIMIT c.args.baikov.now c.requires.baikov)
 
 pub loop-i-preserved : goal.loop-i-preserved
 loop-i-preserved c =

@@ -6,7 +6,7 @@ use Rattle.ibp_algebra.specs.Field.{MeetsConditions, unstripped}
 use Rattle.ibp_algebra.specs.Identity.{in_sector_of, IsIdentityRow}
 use Rattle.mono_order.specs.declared.limits.TheConstants.{MONO_DEGREE, RUN_DEGREE, VARIABLES}
 use Rattle.sparse_rows.specs.Rows.{is_zero_integral}
-use Rattle.family_file.specs.declared.limits.TheConstants.{FILE_DEGREE}
+use Rattle.poly_text.specs.declared.limits.TheConstants.{DEGREE_LIMIT}
 use Rattle.ibp_relation.specs.Shifts.{HasDegree}
 use Rattle.ibp_relation.proofs.Degrees.{HasDegree-more}
 use Rattle.ibp_relation.proofs.UnstrippedForms.{length-unstripped, unstripped_degrees, candidate_none_rises}
@@ -55,11 +55,11 @@ returns-clause-row c =
 pub returns-clause-no_rise : goal.returns-clause-no_rise
 returns-clause-no_rise c =
     let family = c.args.family.now in
-    candidate_none_rises family.n FILE_DEGREE family.gamma family.baikov c.args.field.now.c c.args.field.now.b c.args.seed.now family.limits.few_variables
+    candidate_none_rises family.n DEGREE_LIMIT family.gamma family.baikov c.args.field.now.c c.args.field.now.b c.args.seed.now family.limits.few_variables
     family.limits.polynomial family.limits.not_zero c.requires.field c.requires.seed c.requires.member
 
 pub returns-in_err-a-clause-no_rise : goal.returns-in_err-a-clause-no_rise
 returns-in_err-a-clause-no_rise c =
     let family = c.args.family.now in
-    candidate_none_rises family.n FILE_DEGREE family.gamma family.baikov c.args.field.now.c c.args.field.now.b c.args.seed.now family.limits.few_variables
+    candidate_none_rises family.n DEGREE_LIMIT family.gamma family.baikov c.args.field.now.c c.args.field.now.b c.args.seed.now family.limits.few_variables
     family.limits.polynomial family.limits.not_zero c.requires.field c.requires.seed c.requires.member

@@ -4,7 +4,7 @@ use Rattle.ibp_algebra.specs.Polynomial.{Polynomial}
 use Rattle.ibp_algebra.specs.Field.{MeetsConditions}
 use Rattle.ibp_algebra.specs.Identity.{in_sector_of}
 use Rattle.mono_order.specs.declared.limits.TheConstants.{MONO_DEGREE}
-use Rattle.family_file.specs.declared.limits.TheConstants.{FILE_DEGREE}
+use Rattle.poly_text.specs.declared.limits.TheConstants.{DEGREE_LIMIT}
 use Rattle.ibp_relation.specs.Shifts.{HasDegree}
 use Rattle.ibp_relation.proofs.Degrees.{HasDegree-more, fields_degree}
 use Rattle.ibp_relation.proofs.Outcomes.{none_rises}
@@ -13,15 +13,15 @@ use Rattle.ibp_relation.proofs.relation.identity.Goals as goal
 pub row_of-requires-clause-degrees : goal.row_of-requires-clause-degrees
 row_of-requires-clause-degrees c =
     subst (λ (a : List Polynomial). All (HasDegree MONO_DEGREE) a) (sym c.as_slice-a.ensures)
-    (fields_degree c.args.family.now.n FILE_DEGREE MONO_DEGREE c.args.field.now.a (omega arith) c.requires.field.polynomials)
+    (fields_degree c.args.family.now.n DEGREE_LIMIT MONO_DEGREE c.args.field.now.a (omega arith) c.requires.field.polynomials)
 
 pub row_of-requires-clause-degree : goal.row_of-requires-clause-degree
-row_of-requires-clause-degree c = HasDegree-more FILE_DEGREE MONO_DEGREE c.args.field.now.b (omega arith) c.requires.field.factor.degree_within
+row_of-requires-clause-degree c = HasDegree-more DEGREE_LIMIT MONO_DEGREE c.args.field.now.b (omega arith) c.requires.field.factor.degree_within
 
 pub returns-clause-no_rise : goal.returns-clause-no_rise
 returns-clause-no_rise c =
     let family = c.args.family.now in
     let field = c.args.field.now in
     let meets : MeetsConditions family.baikov (in_sector_of c.args.seed.now) field.a field.b = search rules in
-    none_rises family.n FILE_DEGREE FILE_DEGREE family.gamma family.baikov field.a field.b c.args.seed.now family.limits.few_variables family.limits.polynomial family.limits.not_zero
+    none_rises family.n DEGREE_LIMIT DEGREE_LIMIT family.gamma family.baikov field.a field.b c.args.seed.now family.limits.few_variables family.limits.polynomial family.limits.not_zero
     c.requires.field c.requires.seed meets
