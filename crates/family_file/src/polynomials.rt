@@ -22,7 +22,6 @@ use sparse_poly::Poly;
 use std::alloc::Global;
 use toml::value::Value;
 
-
 // Why a text stands for nothing, in a place that has this fault.
 fn fault_in(error: TextFault, fault: FileFault) -> FamilyFault
     ensures { result ≡ fault_in fault error }

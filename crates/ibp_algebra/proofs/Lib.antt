@@ -20,6 +20,7 @@ pub mod CombinationLaws
 pub mod Members
 pub mod Leads
 pub mod ReducedForms
+pub mod FormKeys
 pub mod Independence
 pub mod Lookups
 pub mod Prefixes

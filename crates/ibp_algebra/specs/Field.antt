@@ -1,7 +1,9 @@
 -- Fields (a_1 .. a_n ; b) and the two conditions on them. The variables of a sector are given by a test on
--- their places in a list of exponents.
---     MeetsConditions p in_sector a b     z_i divides a_i for each i in the sector, and the sum over i of
---                                         a_i times the derivative of p by z_i equals b times p
+-- their places in a list of exponents, which are counted from 0.
+--     IsDivided in_sector a               the first condition: z_i divides a_i for each i in the sector
+--     IsTangent p a b                     the second: the sum over i of a_i times the derivative of p by z_i
+--                                         equals b times p
+--     MeetsConditions p in_sector a b     both
 --     unstripped in_sector c              a_i is z_i c_i for i in the sector, and c_i elsewhere
 --     IsInModule p in_sector c b          the unstripped form meets both conditions
 --     stripped_derivative in_sector c p   the derivative of p along the unstripped form: the sum over i of c_i f_i,
@@ -12,9 +14,18 @@
 use Rattle.std.specs.Prelude.{ℕ, zero, suc, ◌<◌, Bool, IsTrue, if◌then◌else◌, List, [], ◌∷◌, ◌++◌, length, slice_index_or}
 use Rattle.ibp_algebra.specs.Polynomial.{Polynomial, SamePolynomial, IsDivisibleBy, multiply, derivative, derivative_along}
 
+abbrev pub IsDividedAt : (ℕ → Bool) → List Polynomial → ℕ → Type 0
+IsDividedAt in_sector a i = IsTrue (in_sector i) → IsDivisibleBy i (slice_index_or a i [])
+
+abbrev pub IsDivided : (ℕ → Bool) → List Polynomial → Type 0
+IsDivided in_sector a = (i : ℕ) → i < length a → IsDividedAt in_sector a i
+
+abbrev pub IsTangent : Polynomial → List Polynomial → Polynomial → Type 0
+IsTangent p a b = SamePolynomial (derivative_along a p) (multiply b p)
+
 pub record MeetsConditions (p : Polynomial) (in_sector : ℕ → Bool) (a : List Polynomial) (b : Polynomial) : Type 0 where
-  pub divisible : (i : ℕ) → i < length a → IsTrue (in_sector i) → IsDivisibleBy i (slice_index_or a i [])
-  pub tangent : SamePolynomial (derivative_along a p) (multiply b p)
+  pub divisible : IsDivided in_sector a
+  pub tangent : IsTangent p a b
 
 -- the exponents of the variable at place i
 abbrev pub unit_exponents : ℕ → List ℕ

@@ -11,8 +11,12 @@ use Rattle.std.proofs.lemmas.Option.{get_or_from_slice_get}
 use Rattle.std.proofs.lemmas.List.{get_or_default}
 use Rattle.ibp_algebra.specs.Polynomial.{Polynomial, IsDivisibleBy}
 use Rattle.ibp_algebra.specs.Laurent.{power_at}
+use Rattle.ibp_algebra.specs.Field.{IsDividedAt}
 use Rattle.ibp_algebra.specs.Identity.{in_sector_of}
-use Rattle.ibp_relation.specs.Conditions.{IsDividedAt, IsFirstUndivided}
+use Rattle.sector_lattice.specs.Sectors.{sector_of}
+use Rattle.family_file.specs.Conditions.{in_sector}
+use Rattle.family_file.proofs.Places.{in_sector-sector_of}
+use Rattle.ibp_relation.specs.Conditions.{IsFirstUndivided}
 
 is_less : (A B C : Type 0) (r : Ordering) → MatchOrdering r A B C → is_lt r ≡ true → A
 is_less A B C Less h e = h
@@ -40,29 +44,29 @@ read_at : (a : List Polynomial) (place : ℕ) (f : Polynomial) → place < lengt
 read_at a place f within is = get_or_default a place [] f within ∙ sym is
 
 pub found_first : (α : List ℤ) (a : List Polynomial) (place : ℕ) (f : Polynomial) (x : ℤ) → place < length a → f ≡ get_or a place f
-    → slice_get α (place + 1 - 1) ≡ Some x → pos 0 <ℤ x → ¬ (IsDivisibleBy (place + 1 - 1) f) → ((j : ℕ) → j < place → IsDividedAt α a j)
-    → IsFirstUndivided α a (place + 1)
+    → slice_get α (place + 1 - 1) ≡ Some x → pos 0 <ℤ x → ¬ (IsDivisibleBy (place + 1 - 1) f) → ((j : ℕ) → j < place → IsDividedAt (in_sector (sector_of α)) a j)
+    → IsFirstUndivided (in_sector (sector_of α)) a (place + 1)
 found_first α a place f x within is e h undivided earlier =
     let same : place + 1 - 1 ≡ place = omega arith in
     let poly : get_or a (place + 1 - 1) [] ≡ f = ap (λ j. get_or a j []) same ∙ read_at a place f within is in
     record {
       some = omega arith;
       within = omega arith;
-      in_sector = in_sector_when α (place + 1 - 1) x e h;
+      in_sector = in_sector-sector_of α (place + 1 - 1) ∙ in_sector_when α (place + 1 - 1) x e h;
       undivided = λ d. undivided (subst (λ (g : Polynomial). IsDivisibleBy (place + 1 - 1) g) poly d);
       earlier = λ j below. earlier j (omega arith);
     }
 
 -- a place that the search passes
 pub passed_divided : (α : List ℤ) (a : List Polynomial) (place : ℕ) (f : Polynomial) → place < length a → f ≡ get_or a place f
-    → IsDivisibleBy (place + 1 - 1) f → ((j : ℕ) → j < place → IsDividedAt α a j) → (j : ℕ) → j < place + 1 → IsDividedAt α a j
+    → IsDivisibleBy (place + 1 - 1) f → ((j : ℕ) → j < place → IsDividedAt (in_sector (sector_of α)) a j) → (j : ℕ) → j < place + 1 → IsDividedAt (in_sector (sector_of α)) a j
 passed_divided α a place f within is divided earlier =
     let same : place + 1 - 1 ≡ place = omega arith in
     below_more _ _ earlier
     (λ inside. subst (λ (g : Polynomial). IsDivisibleBy place g) (sym (read_at a place f within is)) (subst (λ j. IsDivisibleBy j f) same divided))
 
 pub passed_outside : (α : List ℤ) (a : List Polynomial) (place : ℕ) (x : ℤ) → slice_get α (place + 1 - 1) ≡ Some x → x ≤ℤ pos 0
-    → ((j : ℕ) → j < place → IsDividedAt α a j) → (j : ℕ) → j < place + 1 → IsDividedAt α a j
+    → ((j : ℕ) → j < place → IsDividedAt (in_sector (sector_of α)) a j) → (j : ℕ) → j < place + 1 → IsDividedAt (in_sector (sector_of α)) a j
 passed_outside α a place x e h earlier =
     let same : place + 1 - 1 ≡ place = omega arith in
-    below_more _ _ earlier (λ inside. absurd (outside_when α place x (subst (λ j. slice_get α j ≡ Some x) same e) h inside))
+    below_more _ _ earlier (λ inside. absurd (outside_when α place x (subst (λ j. slice_get α j ≡ Some x) same e) h (sym (in_sector-sector_of α place) ∙ inside)))

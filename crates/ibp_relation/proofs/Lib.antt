@@ -13,3 +13,5 @@ pub mod Divisions
 pub mod Degrees
 pub mod Outcomes
 pub mod UnstrippedForms
+pub mod SeedSectors
+pub mod RowKeys

@@ -5,7 +5,7 @@ use Rattle.std.specs.Ordering.{eq_by_cmp}
 use Rattle.std.proofs.lemmas.Bool.{cases_lt}
 use Rattle.ibp_algebra.specs.FormalSum.{strike}
 use Rattle.ibp_algebra.specs.Polynomial.{Polynomial}
-use Rattle.ibp_algebra.specs.Field.{MeetsConditions}
+use Rattle.ibp_algebra.specs.Field.{IsDivided, MeetsConditions}
 use Rattle.ibp_algebra.specs.Laurent.{Laurent, same_powers, SameLaurent, coefficient_at_power, laurent}
 use Rattle.ibp_algebra.specs.Identity.{negated, in_sector_of, IsIdentityRow}
 use Rattle.ibp_algebra.proofs.Canonical.{same_canonical}
@@ -17,7 +17,7 @@ use Rattle.sector_lattice.specs.Sectors.{integral_cmp}
 use Rattle.sector_lattice.specs.Orders.{integral_cmp_total, same_integrals, integrals_decide}
 use Rattle.sparse_rows.specs.Rows.{SameRow}
 use Rattle.family_file.specs.Shapes.{IsPolynomial, IsField, ArePowers}
-use Rattle.ibp_relation.specs.Conditions.{IsDivided, IsFirstUndivided, NoneRises}
+use Rattle.ibp_relation.specs.Conditions.{IsFirstUndivided, NoneRises}
 use Rattle.ibp_relation.specs.Shifts.{shifts}
 use Rattle.ibp_relation.specs.Uniqueness.{OneRow}
 use Rattle.ibp_relation.proofs.LaurentLaws.{powers_decide}
@@ -69,15 +69,15 @@ one_row n degree γ p a α struck row other few shape some first second h k =
 
 -- ---- the refusals
 
-pub divided_or_first : (α : List ℤ) (a : List Polynomial) (i : ℕ) → IsDivided α a → ¬ (IsFirstUndivided α a i)
-divided_or_first α a i h first = first.undivided (h (i - 1) (omega (arith, first.some, first.within)) first.in_sector)
+pub divided_or_first : (inside : ℕ → Bool) (a : List Polynomial) (i : ℕ) → IsDivided inside a → ¬ (IsFirstUndivided inside a i)
+divided_or_first inside a i h first = first.undivided (h (i - 1) (omega (arith, first.some, first.within)) first.in_sector)
 
-not_earlier : (α : List ℤ) (a : List Polynomial) (i j : ℕ) → IsFirstUndivided α a i → IsFirstUndivided α a j → i < j → ⊥
-not_earlier α a i j first second below = first.undivided (second.earlier (i - 1) (omega (arith, first.some)) first.in_sector)
+not_earlier : (inside : ℕ → Bool) (a : List Polynomial) (i j : ℕ) → IsFirstUndivided inside a i → IsFirstUndivided inside a j → i < j → ⊥
+not_earlier inside a i j first second below = first.undivided (second.earlier (i - 1) (omega (arith, first.some)) first.in_sector)
 
-pub first_unique : (α : List ℤ) (a : List Polynomial) (i j : ℕ) → IsFirstUndivided α a i → IsFirstUndivided α a j → i ≡ j
-first_unique α a i j first second =
-    ⊎_elim (λ (below : i < j). absurd (not_earlier α a i j first second below))
+pub first_unique : (inside : ℕ → Bool) (a : List Polynomial) (i j : ℕ) → IsFirstUndivided inside a i → IsFirstUndivided inside a j → i ≡ j
+first_unique inside a i j first second =
+    ⊎_elim (λ (below : i < j). absurd (not_earlier inside a i j first second below))
     (λ (le : j ≤ i).
-    ⊎_elim (λ (above : j < i). absurd (not_earlier α a j i second first above)) (λ (ge : i ≤ j). omega arith) (cases_lt j i))
+    ⊎_elim (λ (above : j < i). absurd (not_earlier inside a j i second first above)) (λ (ge : i ≤ j). omega arith) (cases_lt j i))
     (cases_lt i j)

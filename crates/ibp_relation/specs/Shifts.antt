@@ -1,5 +1,6 @@
 -- The shifts of a field at a seed: how each of its terms moves the powers of the seed. An index β belongs
 -- to z^(-β), so the shifts are a formal sum over indices.
+-- After the divergence of a field times the integrand, in the Baikov representation.
 --     term c z^m of a_i     c*(m_i - α_i) at the index α - m + e_i
 --     term c z^m of b       γ*c at the index α - m
 use Rattle.std.specs.Prelude.{◌≤◌, sum, ℕ, zero, suc, ◌*◌, ℤ, pos, ◌-ℤ◌, List, [], ◌∷◌, ◌++◌, map}

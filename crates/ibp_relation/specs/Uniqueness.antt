@@ -1,4 +1,5 @@
 -- A field has at most one identity at a seed, where the Baikov polynomial is not zero, and so at most one row.
+-- Textbook algebra: Laurent polynomials over a field have no zero divisors.
 use Rattle.std.specs.Prelude.{◌≡◌, ◌≢◌, ℕ, ◌≤◌, ℤ, Bool, List, []}
 use Rattle.ibp_algebra.specs.FormalSum.{IsCanonical}
 use Rattle.ibp_algebra.specs.Polynomial.{Polynomial}

@@ -1,13 +1,14 @@
 ghost use Rattle.std.specs.Prelude.{◌≡◌, ◌≢◌, ℕ, ◌↔◌, length, All, IfOk, OnOk};
 ghost use Rattle.ibp_algebra.specs.FormalSum.{IsCanonical};
-ghost use Rattle.ibp_algebra.specs.Field.{MeetsConditions, IsInModule, unstripped as unstripped_form};
+ghost use Rattle.ibp_algebra.specs.Field.{IsDivided, IsTangent, MeetsConditions, unstripped as unstripped_form};
 ghost use Rattle.ibp_algebra.specs.Identity.{in_sector_of, IsIdentityRow};
 ghost use Rattle.mono_order.specs.declared.limits.TheConstants.{MONO_DEGREE, RUN_DEGREE};
-ghost use Rattle.sector_lattice.specs.Sectors.{integral_cmp};
+ghost use Rattle.sector_lattice.specs.Sectors.{integral_cmp, sector_of};
 ghost use Rattle.sparse_rows.specs.Rows.{is_zero_integral};
 ghost use Rattle.poly_text.specs.declared.limits.TheConstants.{DEGREE_LIMIT};
+ghost use Rattle.family_file.specs.Conditions.{in_sector, MeetsTwoConditions, IsInSectorModule};
 ghost use Rattle.family_file.specs.Shapes.{IsField, ArePowers};
-ghost use Rattle.ibp_relation.specs.Conditions.{IsDivided, IsFirstUndivided, IsTangent, NoneRises};
+ghost use Rattle.ibp_relation.specs.Conditions.{IsFirstUndivided, NoneRises};
 ghost use Rattle.ibp_relation.specs.Shifts.{HasDegree};
 
 use crate::conditions::{first_undivided, is_tangent};
@@ -28,6 +29,7 @@ pub enum IdentityFault {
     NotDivisible(u8),
     /// The field does not take the Baikov polynomial to a multiple of itself by its factor.
     NotTangent,
+    /// There is no memory for the row.
     NoMemory,
 }
 
@@ -55,11 +57,11 @@ pub fn identity(
     requires seed { ArePowers family.now.n seed.now }
     ensures row { IfOk result (λ row. IsIdentityRow family.now.n family.now.gamma family.now.baikov field.now.a seed.now (is_zero_integral family.now.zero) row) }
     ensures canonical { IfOk result (λ row. IsCanonical integral_cmp row) }
-    ensures meets { OnOk result (MeetsConditions family.now.baikov (in_sector_of seed.now) field.now.a field.now.b) }
+    ensures meets { OnOk result (MeetsTwoConditions family.now.baikov (sector_of seed.now) field.now) }
     ensures no_rise { OnOk result (NoneRises family.now.n family.now.gamma family.now.baikov field.now.a seed.now) }
-    ensures not_divisible { (i : ℕ) → result ≢ Err IdentityFault.NoMemory → (result ≡ Err (IdentityFault.NotDivisible i)) ↔ IsFirstUndivided seed.now field.now.a i }
+    ensures not_divisible { (i : ℕ) → result ≢ Err IdentityFault.NoMemory → (result ≡ Err (IdentityFault.NotDivisible i)) ↔ IsFirstUndivided (in_sector (sector_of seed.now)) field.now.a i }
     ensures not_tangent { result ≢ Err IdentityFault.NoMemory
-        → (result ≡ Err IdentityFault.NotTangent) ↔ (IsDivided seed.now field.now.a × ¬ (IsTangent family.now.baikov field.now.a field.now.b)) }
+        → (result ≡ Err IdentityFault.NotTangent) ↔ (IsDivided (in_sector (sector_of seed.now)) field.now.a × ¬ (IsTangent family.now.baikov field.now.a field.now.b)) }
 {
     let a = field.a.as_slice();
     if let Some(i) = first_undivided(a, seed) {
@@ -81,7 +83,7 @@ pub fn candidate(
 ) -> Result<Row, NoMemory>
     requires field { IsField family.now.n RUN_DEGREE field.now.c field.now.b }
     requires seed { ArePowers family.now.n seed.now }
-    requires member { IsInModule family.now.baikov (in_sector_of seed.now) field.now.c field.now.b }
+    requires member { IsInSectorModule family.now.baikov (sector_of seed.now) field.now }
     ensures row { IfOk result (λ row. IsIdentityRow family.now.n family.now.gamma family.now.baikov (unstripped_form (in_sector_of seed.now) field.now.c) seed.now (is_zero_integral family.now.zero) row) }
     ensures canonical { IfOk result (λ row. IsCanonical integral_cmp row) }
     ensures no_rise { NoneRises family.now.n family.now.gamma family.now.baikov (unstripped_form (in_sector_of seed.now) field.now.c) seed.now }

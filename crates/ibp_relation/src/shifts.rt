@@ -12,7 +12,7 @@ use sector_lattice::Integral;
 use sparse_poly::Poly;
 use std::alloc::{AllocError, Global};
 
-// The shifts of the field (a_1 .. a_n ; b) at the seed, in the order of its terms.
+/// The shifts of the field (a_1 .. a_n ; b) at the seed, in the order of its terms.
 pub fn identity_terms(
     alloc: Global,
     gamma: Residue,

@@ -10,7 +10,6 @@ ghost use Rattle.mono_order.specs.declared.limits.TheConstants.{RUN_DEGREE, VARI
 ghost use Rattle.family_file.specs.Shapes.{IsPolynomial};
 ghost use Rattle.ibp_relation.specs.Shifts.{HasDegree};
 
-use crate::conditions::product;
 use ibp_base::NoMemory;
 use ibp_field::Residue;
 use mono_order::Monomial;
@@ -18,7 +17,7 @@ use sector_lattice::Integral;
 use sparse_poly::Poly;
 use std::alloc::Global;
 
-// The polynomials of the unstripped form for the sector of the seed.
+/// The polynomials of the unstripped form for the sector of the seed.
 pub fn unstripped(alloc: Global, c: &[Poly], seed: &Integral) -> Result<Vec<Poly>, NoMemory>
     requires fits { length c.now ≡ length seed.now }
     requires few { length c.now ≤ VARIABLES }
@@ -42,16 +41,8 @@ fn with_factor(alloc: Global, i: u8, poly: &Poly, seed: &Integral) -> Result<Pol
     if seed.power(i) > 0 {
         times_variable(alloc, i, poly)
     } else {
-        copied(alloc, poly)
+        poly.copy(alloc)
     }
-}
-
-// The same polynomial.
-fn copied(alloc: Global, poly: &Poly) -> Result<Poly, NoMemory>
-    ensures { IfOk result (λ copy. copy ≡ poly.now) }
-{
-    let copy = Poly::from_terms(alloc, poly.terms())?;
-    Ok(copy)
 }
 
 // The polynomial times z_i.
@@ -63,6 +54,5 @@ fn times_variable(alloc: Global, i: u8, poly: &Poly) -> Result<Poly, NoMemory>
     ensures { IfOk result (λ p. p ≡ multiply (variable (i - 1)) poly.now) }
 {
     let factor = Poly::from_terms(alloc, &[(Monomial::variable(i), Residue::one())])?;
-    let moved = product(alloc, &factor, poly)?;
-    Ok(moved)
+    factor.product(alloc, poly)
 }

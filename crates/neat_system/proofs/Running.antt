@@ -7,7 +7,6 @@ use Rattle.sector_lattice.specs.Sectors.{sector_cmp}
 use Rattle.sector_lattice.specs.declared.sector.Sector.{Sector}
 use Rattle.sparse_rows.specs.Rows.{is_zero_integral}
 use Rattle.family_file.specs.Conditions.{is_zero_sector}
-use Rattle.family_file.specs.Family.{FamilyData}
 use Rattle.family_file.specs.FamilyView.{family_view}
 use Rattle.family_file.specs.declared.family.Family.{Family}
 use Rattle.relay_core.specs.Family.{book, IsReached}
@@ -20,30 +19,19 @@ use Rattle.relay_core.proofs.Counts.{one_more}
 use Rattle.relay_core.proofs.Facts.{lie_between, done_few}
 use Rattle.relay_core.proofs.Kept.{replays_more}
 use Rattle.relay_core.proofs.LastEvent.{replays_none}
-use Rattle.relay_core.proofs.Members.{from_filter, in_none}
+use Rattle.relay_core.proofs.Members.{from_filter}
 use Rattle.relay_core.proofs.SectorBooks.{a_member}
 use Rattle.relay_core.proofs.Sound.{IsSound, replay_sound}
 use Rattle.sector_job.specs.Candidates.{Integral}
 use Rattle.sector_job.specs.EqualPlans.{same_family, families_decide}
-use Rattle.sector_job.specs.Outcomes.{FitsTargets, IsOutcome, tails_in}
 use Rattle.sector_job.specs.PieceLaws.{opened, lawful}
 use Rattle.sector_job.specs.Results.{ResultValue, opening_of, tails_of_plan}
-use Rattle.sector_job.specs.Tails.{tails_not_zero}
-use Rattle.sector_job.specs.declared.outcome.Outcome.{Outcome}
-use Rattle.sector_job.specs.declared.outcome.Outcome.TheVariants.{Worked, PairsSpent, DegreeOver, CandidatesOver}
+use Rattle.sector_job.proofs.TailsNotZero.{tails_not_zero}
 use Rattle.neat_system.specs.Running.{IsUnderWay, Advances}
 
 not_false : (b : Bool) → not b ≡ true → b ≡ false
 not_false true h = absurd (let e : false ≡ true = h in cc)
 not_false false h = refl
-
-no_zero_tail : (family : FamilyData) (sector : ℕ) (targets : List Integral) (outcome : Outcome) → FitsTargets family sector targets → IsOutcome family sector targets outcome
-    → (integral : Integral) → Contains (tails_in outcome) integral → is_zero_integral family.zero integral ≡ false
-no_zero_tail family sector targets (Worked generators candidates tails) fits is integral inside =
-    tails_not_zero family generators.fields is.1.seeds candidates is.1.are_candidates sector targets tails fits is.1.are_tails integral inside
-no_zero_tail family sector targets PairsSpent fits is integral inside = absurd (in_none integral inside)
-no_zero_tail family sector targets DegreeOver fits is integral inside = absurd (in_none integral inside)
-no_zero_tail family sector targets CandidatesOver fits is integral inside = absurd (in_none integral inside)
 
 module _ (plan : Family) where
   module _ (relay : Relay Family ResultValue) (u : IsUnderWay plan relay) where
@@ -61,7 +49,7 @@ module _ (plan : Family) where
           | inl target ↦ not_false _ (from_filter (λ t. not (is_zero_integral plan.zero t)) plan.targets integral target).1
           | inr from ↦
               let tails = from.tail.named in
-              no_zero_tail (family_view plan) from.sector (book from.sector relay.progress.books) tails.outcome tails.fits tails.is_outcome integral (subst (λ (xs : List Integral). Contains xs integral) tails.are from.tail.among)
+              tails_not_zero (family_view plan) from.sector (book from.sector relay.progress.books) tails.outcome tails.fits tails.is_outcome integral (subst (λ (xs : List Integral). Contains xs integral) tails.are from.tail.among)
         ]
 
     -- a reached sector isn't zero

@@ -1,11 +1,12 @@
 -- `identity` refuses a family in one way, and only one that it doesn't accept.
-use Rattle.std.proofs.Common.{◌≡◌, ℕ, ◌-◌, ◌<◌, List, inl, inr, refl, ap, subst, arith}
-use Rattle.std.specs.Prelude.{ℤ}
-use Rattle.std.proofs.lemmas.Bool.{cases_lt}
-use Rattle.ibp_algebra.specs.Polynomial.{Polynomial}
+use Rattle.std.proofs.Common.{◌≡◌, ℕ, ◌-◌, List, refl, ap, subst, arith}
+use Rattle.ibp_algebra.specs.Field.{IsDivided}
+use Rattle.sector_lattice.specs.Sectors.{sector_of}
+use Rattle.family_file.specs.Conditions.{in_sector}
 use Rattle.family_file.specs.declared.parts.Probe.{Probe}
 use Rattle.family_file.specs.Family.{FamilyData}
-use Rattle.ibp_relation.specs.Conditions.{IsDivided, IsFirstUndivided}
+use Rattle.ibp_relation.specs.Conditions.{IsFirstUndivided}
+use Rattle.ibp_relation.proofs.Outcomes.{first_unique}
 use Rattle.neatibp.specs.Identity.{MeetsProbe, IsIdentityText, IsNotDivisible, IsNotTangent}
 use Rattle.neatibp.specs.Causes.{Refuses}
 use Rattle.neatibp.specs.declared.words.Command.TheVariants as command
@@ -13,29 +14,16 @@ use Rattle.neatibp.specs.declared.status.Status.{Status}
 use Rattle.neatibp.specs.declared.status.Status.TheVariants.{Done, Usage, ReadFault, File, NotDivisible, NotTangent, PairsSpent, DegreeOver, CandidatesOver, WriteFault, NoMemory}
 use Rattle.neatibp.proofs.Probes.{same_probe, divisible_again, tangent_again}
 
--- of two variables that do not divide, neither is before the other
-not_before : (α : List ℤ) (a : List Polynomial) (i j : ℕ) → IsFirstUndivided α a i → IsFirstUndivided α a j → i < j → ⊥
-not_before α a i j first other less = first.undivided (other.earlier (i - 1) (omega (arith, first.some)) first.in_sector)
-
-same_first : (α : List ℤ) (a : List Polynomial) (i j : ℕ) → IsFirstUndivided α a i → IsFirstUndivided α a j → i ≡ j
-same_first α a i j first other = elim (cases_lt i j) [
-  | inl less ↦ absurd (not_before α a i j first other less)
-  | inr from ↦ elim (cases_lt j i) [
-    | inl more ↦ absurd (not_before α a j i other first more)
-    | inr upto ↦ omega arith
-  ]
-]
-
 same_variable : (family : FamilyData) (i j : ℕ) → IsNotDivisible family i → IsNotDivisible family j → i ≡ j
 same_variable family i j first other =
-    let moved : IsFirstUndivided first.probe.seed first.probe.field.a j =
-    subst (λ (p : Probe). IsFirstUndivided p.seed p.field.a j) (same_probe family other.probe first.probe other.given first.given) other.first in
-    same_first first.probe.seed first.probe.field.a i j first.first moved
+    let moved : IsFirstUndivided (in_sector (sector_of first.probe.seed)) first.probe.field.a j =
+    subst (λ (p : Probe). IsFirstUndivided (in_sector (sector_of p.seed)) p.field.a j) (same_probe family other.probe first.probe other.given first.given) other.first in
+    first_unique (in_sector (sector_of first.probe.seed)) first.probe.field.a i j first.first moved
 
 divided_or_not : (family : FamilyData) (i : ℕ) → IsNotDivisible family i → IsNotTangent family → ⊥
 divided_or_not family i first other =
-    let divided : IsDivided first.probe.seed first.probe.field.a =
-    subst (λ (p : Probe). IsDivided p.seed p.field.a) (same_probe family other.probe first.probe other.given first.given) other.divided in
+    let divided : IsDivided (in_sector (sector_of first.probe.seed)) first.probe.field.a =
+    subst (λ (p : Probe). IsDivided (in_sector (sector_of p.seed)) p.field.a) (same_probe family other.probe first.probe other.given first.given) other.divided in
     first.first.undivided (divided (i - 1) (omega (arith, first.first.some, first.first.within)) first.first.in_sector)
 
 pub identity_meets : (family : FamilyData) (text : List ℕ) → IsIdentityText family text → MeetsProbe family

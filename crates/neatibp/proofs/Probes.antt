@@ -3,13 +3,14 @@ use Rattle.std.proofs.Common.{◌≡◌, ◌≢◌, ◌<◌, ◌^◌, ℕ, ◌�
 use Rattle.std.specs.declared.alloc.Global.{Global}
 use Rattle.std.specs.Prelude.{Vec, IsErrAnd, IsSome}
 use Rattle.std.proofs.lemmas.Option.{same_Some}
-use Rattle.ibp_algebra.specs.Field.{MeetsConditions}
-use Rattle.ibp_algebra.specs.Identity.{in_sector_of}
+use Rattle.ibp_algebra.specs.Field.{IsDivided, IsTangent}
+use Rattle.sector_lattice.specs.Sectors.{sector_of}
+use Rattle.family_file.specs.Conditions.{in_sector, MeetsTwoConditions}
 use Rattle.family_file.specs.declared.need.Need.TheVariants as needs
 use Rattle.family_file.specs.declared.parts.Probe.{Probe}
 use Rattle.family_file.proofs.FamilyLimits.{accepted_needs}
 use Rattle.family_file.specs.Family.{FamilyData, family_of}
-use Rattle.ibp_relation.specs.Conditions.{IsDivided, IsFirstUndivided, IsTangent}
+use Rattle.ibp_relation.specs.Conditions.{IsFirstUndivided}
 use Rattle.ibp_relation.specs.declared.relation.IdentityFault.{IdentityFault}
 use Rattle.ibp_relation.specs.declared.relation.IdentityFault.TheVariants.{NotDivisible, NotTangent, NoMemory}
 use Rattle.neatibp.specs.Identity.{MeetsProbe, IsNotDivisible, IsNotTangent}
@@ -25,20 +26,20 @@ same_probe family p q first second = same_Some p q (sym first ∙ second)
 -- a field that meets the conditions is refused by neither
 pub divisible_again : (family : FamilyData) (i : ℕ) → MeetsProbe family → IsNotDivisible family i → ⊥
 divisible_again family i meets refused =
-    let conditions : MeetsConditions family.baikov (in_sector_of refused.probe.seed) refused.probe.field.a refused.probe.field.b =
-    subst (λ (p : Probe). MeetsConditions family.baikov (in_sector_of p.seed) p.field.a p.field.b) (same_probe family meets.probe refused.probe meets.given refused.given) meets.conditions in
+    let conditions : MeetsTwoConditions family.baikov (sector_of refused.probe.seed) refused.probe.field =
+    subst (λ (p : Probe). MeetsTwoConditions family.baikov (sector_of p.seed) p.field) (same_probe family meets.probe refused.probe meets.given refused.given) meets.conditions in
     refused.first.undivided (conditions.divisible _ (omega (arith, refused.first.some, refused.first.within)) refused.first.in_sector)
 
 pub tangent_again : (family : FamilyData) → MeetsProbe family → IsNotTangent family → ⊥
 tangent_again family meets refused =
-    let conditions : MeetsConditions family.baikov (in_sector_of refused.probe.seed) refused.probe.field.a refused.probe.field.b =
-    subst (λ (p : Probe). MeetsConditions family.baikov (in_sector_of p.seed) p.field.a p.field.b) (same_probe family meets.probe refused.probe meets.given refused.given) meets.conditions in
+    let conditions : MeetsTwoConditions family.baikov (sector_of refused.probe.seed) refused.probe.field =
+    subst (λ (p : Probe). MeetsTwoConditions family.baikov (sector_of p.seed) p.field) (same_probe family meets.probe refused.probe meets.given refused.given) meets.conditions in
     refused.not_tangent conditions.tangent
 
 -- a fault of the identity refuses the family
 pub refuses : {R : Type 0} (family : FamilyData) (probe : Probe) (result : Result R IdentityFault) (fault : IdentityFault) → family.probe ≡ Some probe → result ≡ Err fault
-    → ((i : ℕ) → result ≢ Err NoMemory → (result ≡ Err (NotDivisible i)) ↔ IsFirstUndivided probe.seed probe.field.a i)
-    → (result ≢ Err NoMemory → (result ≡ Err NotTangent) ↔ (IsDivided probe.seed probe.field.a × ¬ (IsTangent family.baikov probe.field.a probe.field.b)))
+    → ((i : ℕ) → result ≢ Err NoMemory → (result ≡ Err (NotDivisible i)) ↔ IsFirstUndivided (in_sector (sector_of probe.seed)) probe.field.a i)
+    → (result ≢ Err NoMemory → (result ≡ Err NotTangent) ↔ (IsDivided (in_sector (sector_of probe.seed)) probe.field.a × ¬ (IsTangent family.baikov probe.field.a probe.field.b)))
     → IsRefusal command.Identity (Ok family) (of_identity_fault fault)
 refuses family probe result (NotDivisible i) given is divisible tangent =
     let other : result ≢ Err NoMemory = λ e. absurd (cc) in

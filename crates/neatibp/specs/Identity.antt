@@ -8,24 +8,25 @@
 --     IsNotTangent family            the first condition holds, and the second one does not
 use Rattle.std.specs.Prelude.{◌≡◌, ℕ, List, ◌++◌, codes, Some}
 use Rattle.ibp_algebra.specs.FormalSum.{IsCanonical}
-use Rattle.ibp_algebra.specs.Field.{MeetsConditions}
-use Rattle.ibp_algebra.specs.Identity.{IsIdentityRow, in_sector_of}
-use Rattle.sector_lattice.specs.Sectors.{integral_cmp}
+use Rattle.ibp_algebra.specs.Field.{IsDivided, IsTangent}
+use Rattle.ibp_algebra.specs.Identity.{IsIdentityRow}
+use Rattle.sector_lattice.specs.Sectors.{integral_cmp, sector_of}
 use Rattle.sparse_rows.specs.Rows.{IntegralSum, is_zero_integral}
+use Rattle.family_file.specs.Conditions.{in_sector, MeetsTwoConditions}
 use Rattle.family_file.specs.Family.{FamilyData}
 use Rattle.family_file.specs.declared.parts.Probe.{Probe}
-use Rattle.ibp_relation.specs.Conditions.{IsDivided, IsFirstUndivided, IsTangent, NoneRises}
+use Rattle.ibp_relation.specs.Conditions.{IsFirstUndivided, NoneRises}
 use Rattle.system_text.specs.Texts.{row_text}
 
 pub record MeetsProbe (family : FamilyData) : Type 0 where
   pub probe : Probe
   pub given : family.probe ≡ Some probe
-  pub conditions : MeetsConditions family.baikov (in_sector_of probe.seed) probe.field.a probe.field.b
+  pub conditions : MeetsTwoConditions family.baikov (sector_of probe.seed) probe.field
 
 pub record IsProbeRow (family : FamilyData) (row : IntegralSum) : Type 0 where
   pub probe : Probe
   pub given : family.probe ≡ Some probe
-  pub conditions : MeetsConditions family.baikov (in_sector_of probe.seed) probe.field.a probe.field.b
+  pub conditions : MeetsTwoConditions family.baikov (sector_of probe.seed) probe.field
   pub identity : IsIdentityRow family.n family.gamma family.baikov probe.field.a probe.seed (is_zero_integral family.zero) row
   pub canonical : IsCanonical integral_cmp row
   pub none_rises : NoneRises family.n family.gamma family.baikov probe.field.a probe.seed
@@ -41,10 +42,10 @@ pub record IsIdentityText (family : FamilyData) (text : List ℕ) : Type 0 where
 pub record IsNotDivisible (family : FamilyData) (i : ℕ) : Type 0 where
   pub probe : Probe
   pub given : family.probe ≡ Some probe
-  pub first : IsFirstUndivided probe.seed probe.field.a i
+  pub first : IsFirstUndivided (in_sector (sector_of probe.seed)) probe.field.a i
 
 pub record IsNotTangent (family : FamilyData) : Type 0 where
   pub probe : Probe
   pub given : family.probe ≡ Some probe
-  pub divided : IsDivided probe.seed probe.field.a
+  pub divided : IsDivided (in_sector (sector_of probe.seed)) probe.field.a
   pub not_tangent : ¬ IsTangent family.baikov probe.field.a probe.field.b

@@ -4,3 +4,4 @@ pub mod Listing
 pub mod HandedDown
 pub mod Steps
 pub mod Opening
+pub mod TailsNotZero

@@ -1,18 +1,12 @@
--- Seeds are integrals of small powers, and the sector's module is that of each seed's sector.
-use Rattle.std.proofs.Common.{◌≡◌, ℕ, zero, suc, ◌+◌, ◌-◌, ◌≤◌, ◌⊎◌, inl, inr, Bool, true, false, if◌then◌else◌, List, [], ◌∷◌, length, sym, subst, arith}
+-- Seeds are integrals of small powers.
+use Rattle.std.proofs.Common.{◌≡◌, ℕ, zero, suc, ◌+◌, ◌-◌, ◌≤◌, ◌⊎◌, inl, inr, Bool, true, false, if◌then◌else◌, List, [], ◌∷◌, length, arith}
 use Rattle.std.specs.Prelude.{ℤ, pos, negsuc, ◌≤ℤ◌, unsigned_abs}
 use Rattle.std.proofs.lemmas.Int.{ints}
 use Rattle.std.proofs.lemmas.List.Sums.{sum_by-cons}
-use Rattle.ibp_algebra.specs.Field.{IsInModule}
-use Rattle.ibp_algebra.specs.Identity.{in_sector_of}
 use Rattle.ibp_algebra.specs.Laurent.{power_at}
-use Rattle.ibp_algebra.specs.Polynomial.{Polynomial}
-use Rattle.sector_lattice.specs.Sectors.{sector_of, dots_of, rank_of, is_positive}
+use Rattle.sector_lattice.specs.Sectors.{dots_of, rank_of, is_positive}
 use Rattle.sector_lattice.specs.Seeds.{IsSeed}
-use Rattle.family_file.specs.Conditions.{IsInSectorModule}
 use Rattle.family_file.specs.Shapes.{ArePowers}
-use Rattle.family_file.specs.declared.parts.StrippedField.{StrippedField}
-use Rattle.family_file.proofs.Places.{in_sector-sector_of}
 
 dots_first : (p : ℤ) (powers : List ℤ) → dots_of (p ∷ powers) ≡ (if is_positive p then unsigned_abs p - 1 else 0) + dots_of powers
 dots_first p powers = sum_by-cons (λ power. if is_positive power then unsigned_abs power - 1 else 0) p powers
@@ -61,10 +55,3 @@ seed_powers sector n dots rank powers few low h =
       | inl within ↦ omega (arith, within, h.few_dots)
       | inr within ↦ omega (arith, within, h.low_rank)
     ])
-
--- the sector's module is that of each of its seeds
-pub member_at : (p : Polynomial) (sector : ℕ) (seed : List ℤ) (field : StrippedField) → sector_of seed ≡ sector → IsInSectorModule p sector field
-    → IsInModule p (in_sector_of seed) field.c field.b
-member_at p sector seed field same member =
-    subst (λ (inside : ℕ → Bool). IsInModule p inside field.c field.b) (λ j i. in_sector-sector_of seed i j)
-    (subst (λ s. IsInSectorModule p s field) (sym same) member)

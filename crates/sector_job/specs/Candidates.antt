@@ -1,4 +1,5 @@
 -- The candidates of a sector for some of its integrals, and what they hand down.
+-- After NeatIBP (Wu, Boehm, Ma, Xu, Zhang); seeds by dots and rank, and the order of integrals, after Laporta.
 --     dots_bound, rank_bound     the bounds of the seeds for some targets
 --     AreSeedsFor                the seeds of a sector for some targets, lowest first
 --     Label, labels              a seed with the number of a field; all of them for some seeds and so many fields: lowest

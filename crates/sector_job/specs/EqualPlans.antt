@@ -1,4 +1,5 @@
 -- Plans that `==` calls equal have equal families, part by part.
+-- Our own: equality of two families, part by part.
 use Rattle.std.proofs.Common.{◌≡◌, ℕ, Bool, true, ◌&&◌, List, ap, subst}
 use Rattle.std.specs.Prelude.{nat_eq}
 use Rattle.std.specs.Bool.{Decides}

@@ -1,4 +1,5 @@
 -- What a sector hands down, as lists.
+-- After NeatIBP (Wu, Boehm, Ma, Xu, Zhang): a sector's work leaves integrals of its subsectors.
 --     is_proper inner outer        whether the one sector is a proper subsector of the other
 --     integrals_below sector f     the integrals of proper subsectors in a formal sum, in the order of its terms
 use Rattle.std.specs.Prelude.{ℕ, Bool, List, not, ◌&&◌, ◌==◌, map, filter}

@@ -1,7 +1,6 @@
 pub mod Candidates
 pub mod Outcomes
 pub mod Results
-pub mod Forms
 pub mod CandidateRows
 pub mod Tails
 pub mod OneOutcome

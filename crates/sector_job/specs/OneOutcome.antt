@@ -1,9 +1,9 @@
 -- At most one outcome comes of a sector for some targets.
-use Rattle.std.proofs.Common.{◌≡◌, ℕ, ◌*◌, List, length, refl, sym, ◌∙◌, subst, arith}
+use Rattle.std.proofs.Common.{◌≡◌, ℕ, ◌*◌, ◌≤◌, Bool, true, false, List, length, refl, sym, ◌∙◌, ap, subst, true≢false, lt_irrefl, lt_of_le_of_lt}
 use Rattle.std.specs.Prelude.{Contains}
 use Rattle.mono_order.specs.declared.limits.TheConstants.{RUN_DEGREE}
 use Rattle.mono_order.specs.TermOrder.{zero_dominates}
-use Rattle.module_basis.specs.PlainRun.{RunEnd, PairsSpent as RunSpent, DegreeOver as RunOver}
+use Rattle.module_basis.specs.PlainRun.{RunEnd, Done, PairsSpent as RunSpent, DegreeOver as RunOver}
 use Rattle.module_basis.proofs.RunEnds.{RunsTo-unique}
 use Rattle.sector_lattice.specs.Sectors.{integral_cmp, Ascends}
 use Rattle.sector_lattice.specs.Orders.{integral_cmp_total}
@@ -25,18 +25,29 @@ use Rattle.sector_job.specs.CandidateRows.{one_list}
 pub one_ascending : (xs ys : List Integral) → Ascends xs → Ascends ys → ((z : Integral) → Contains xs z → Contains ys z) → ((z : Integral) → Contains ys z → Contains xs z) → xs ≡ ys
 one_ascending xs ys up vp h k = same_members integral_cmp integral_cmp_total xs ys up vp h k
 
+-- the ends of a run differ
+abbrev is_done : RunEnd → Bool
+is_done (Done elements taken) = true
+is_done RunSpent = false
+is_done RunOver = false
+
+abbrev is_spent : RunEnd → Bool
+is_spent (Done elements taken) = false
+is_spent RunSpent = true
+is_spent RunOver = false
+
 module _ (family : FamilyData) (limits : DataWithin family) (sector : ℕ) (targets : List Integral) where
   one_end : (first second : RunEnd) → EndsSo family sector first → EndsSo family sector second → first ≡ second
   one_end first second h k = RunsTo-unique zero_dominates RUN_DEGREE (sector_generators family.baikov family.n sector) family.budget.pairs first second h k
 
   done_not_spent : (fields : List StrippedField) → HasBasis family sector fields → EndsSo family sector RunSpent → ⊥
-  done_not_spent fields h k = let e = one_end _ _ h.done k in cc
+  done_not_spent fields h k = true≢false (ap is_done (one_end _ _ h.done k))
 
   done_not_over : (fields : List StrippedField) → HasBasis family sector fields → EndsSo family sector RunOver → ⊥
-  done_not_over fields h k = let e = one_end _ _ h.done k in cc
+  done_not_over fields h k = true≢false (ap is_done (one_end _ _ h.done k))
 
   spent_not_over : EndsSo family sector RunSpent → EndsSo family sector RunOver → ⊥
-  spent_not_over h k = let e = one_end _ _ h k in cc
+  spent_not_over h k = true≢false (ap is_spent (one_end _ _ h k))
 
   one_basis : (first second : List StrippedField) → HasBasis family sector first → HasBasis family sector second → first ≡ second
   one_basis first second h k = one_list_of_fields family.baikov family.n sector limits.few_variables limits.polynomial.variables first second h.basis k.basis
@@ -50,7 +61,7 @@ module _ (family : FamilyData) (limits : DataWithin family) (sector : ℕ) (targ
       let same_fields : fields ≡ k.fields = one_basis fields k.fields h.basis k.basis in
       let same_seeds : h.seeds ≡ k.seeds = one_seeds h.seeds k.seeds h.are_seeds k.are_seeds in
       let counts : length fields * length h.seeds ≡ length k.fields * length k.seeds = λ i. length (same_fields i) * length (same_seeds i) in
-      omega (arith, counts, h.within, k.over)
+      lt_irrefl _ (lt_of_le_of_lt (subst (λ count. count ≤ family.budget.candidates) counts h.within) k.over)
 
   one_tails : (candidates : List IntegralSum) (first second : List Integral) → AreTails sector targets candidates first → AreTails sector targets candidates second → first ≡ second
   one_tails candidates first second h k =

@@ -1,4 +1,5 @@
 -- What comes of the work on a sector for some of its integrals.
+-- After NeatIBP (Wu, Boehm, Ma, Xu, Zhang), which works sector by sector from the top down; the budgets are our own.
 --     FitsTargets          a non-empty ascending list of integrals of the sector, which isn't zero
 --     HasBasis             the sector's run is done, and these fields are the reduced basis of its module
 --     IsOver               there are more candidates than the budget allows

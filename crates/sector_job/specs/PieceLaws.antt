@@ -1,10 +1,10 @@
--- The laws of a sector's result as a piece of work.
-use Rattle.std.proofs.Common.{◌≡◌, false, ℕ, List, [], length, sym, ◌∙◌, ap, subst}
+-- The laws of a sector's result as a piece of work. What an impl proves may rest on specs/ alone, so these lemmas and
+-- those below them stand here.
+use Rattle.std.proofs.Common.{◌≡◌, ℕ, List, [], length, sym, ◌∙◌, ap, subst}
 use Rattle.std.specs.Prelude.{Contains}
 use Rattle.std.specs.List.Sorted.{IsStrictlySortedBy}
 use Rattle.std.proofs.lemmas.List.Elements.{All-contains}
 use Rattle.sector_lattice.specs.Sectors.{sector_of, Ascends, IsProperSubsector}
-use Rattle.sparse_rows.specs.Rows.{is_zero_integral}
 use Rattle.family_file.specs.Family.{FamilyData}
 use Rattle.family_file.specs.FamilyView.{family_view}
 use Rattle.family_file.specs.declared.family.Family.{Family}
@@ -17,7 +17,7 @@ use Rattle.sector_job.specs.Results.{opening_of, tails_of_plan}
 use Rattle.sector_job.specs.declared.outcome.Outcome.{Outcome}
 use Rattle.sector_job.specs.declared.outcome.Outcome.TheVariants.{Worked, PairsSpent, DegreeOver, CandidatesOver}
 use Rattle.sector_job.specs.OneOutcome.{one_outcome}
-use Rattle.sector_job.specs.Tails.{tails_below, tails_powers, tails_not_zero}
+use Rattle.sector_job.specs.Tails.{tails_below, tails_powers}
 
 pub opened : (p : Family) (integral : Integral) → Contains (opening_of p).targets integral → length integral ≡ (opening_of p).n
 opened p integral inside = (All-contains (ArePowers p.n) p.targets integral p.limits.target_powers (from_filter _ p.targets integral inside).0).count
@@ -41,14 +41,6 @@ tails_lie family sector targets (Worked generators candidates tails) fits h inte
 tails_lie family sector targets PairsSpent fits h integral inside = absurd (in_none integral inside)
 tails_lie family sector targets DegreeOver fits h integral inside = absurd (in_none integral inside)
 tails_lie family sector targets CandidatesOver fits h integral inside = absurd (in_none integral inside)
-
-pub tails_not_struck : (family : FamilyData) (sector : ℕ) (targets : List Integral) (outcome : Outcome) → FitsTargets family sector targets → IsOutcome family sector targets outcome
-    → (integral : Integral) → Contains (tails_in outcome) integral → is_zero_integral family.zero integral ≡ false
-tails_not_struck family sector targets (Worked generators candidates tails) fits h integral inside =
-    tails_not_zero family generators.fields h.1.seeds candidates h.1.are_candidates sector targets tails fits h.1.are_tails integral inside
-tails_not_struck family sector targets PairsSpent fits h integral inside = absurd (in_none integral inside)
-tails_not_struck family sector targets DegreeOver fits h integral inside = absurd (in_none integral inside)
-tails_not_struck family sector targets CandidatesOver fits h integral inside = absurd (in_none integral inside)
 
 pub lawful : (p : Family) → AreLawful (tails_of_plan p) (opening_of p).n
 lawful p = record {

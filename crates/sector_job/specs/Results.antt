@@ -1,4 +1,5 @@
 -- What came of a sector, as contracts see it.
+-- Our own: the value of a piece of work in the relay of sectors.
 --     ResultValue           a family, a sector, targets, and an outcome
 --     IsResult              the targets fit the sector, and the outcome is that of the sector for them
 use Rattle.std.specs.Prelude.{List}

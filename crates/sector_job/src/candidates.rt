@@ -1,8 +1,6 @@
 // The candidates of a sector, row by row.
 ghost use Rattle.std.specs.Prelude.{◌≡◌, length, IfOk};
 ghost use Rattle.std.specs.List.{All, AllZip};
-ghost use Rattle.ibp_algebra.specs.Field.{IsInModule};
-ghost use Rattle.ibp_algebra.specs.Identity.{in_sector_of};
 ghost use Rattle.mono_order.specs.declared.limits.TheConstants.{RUN_DEGREE};
 ghost use Rattle.family_file.specs.Shapes.{IsField, ArePowers};
 ghost use Rattle.family_file.specs.Conditions.{IsInSectorModule};

@@ -10,8 +10,11 @@ pub enum Outcome {
     /// The reduced basis, the identities of its fields at the seeds, and the integrals of proper subsectors that
     /// the targets are reduced to.
     Worked {
+        /// The reduced basis of the sector's module.
         generators: Generators,
+        /// The identities of its fields at the seeds: lowest seed first, and at each seed in the order of the basis.
         candidates: List<Row>,
+        /// The integrals of proper subsectors that the targets are reduced to, lowest first.
         tails: List<Integral>,
     },
     /// The run of the sector spent the family's pairs.

@@ -36,7 +36,7 @@ impl Model for SectorResult {
 }
 
 impl SectorResult {
-    // What came of the sector for these targets.
+    /// What came of the sector for these targets.
     pub(crate) fn new(
         plan: Plan,
         sector: Sector,

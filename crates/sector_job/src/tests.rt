@@ -48,6 +48,17 @@ targets = [[2]]
 pairs = 0
 ";
 
+// The run of sector 4 comes to a term of degree above 250 at its sixtieth pair; that of sector 2 is done before.
+const STEEP: &str = "version = 1
+name = \"steep\"
+loops = 1
+legs = 2
+variables = 3
+dimension = 12
+baikov = [[1, 24, 0, 0], [1, 1, 21, 1], [1, 0, 0, 23]]
+targets = [[0, 1, 0], [0, 0, 1]]
+";
+
 const BUBBLE_WITH_A_SEED: &str = "version = 1
 name = \"bubble\"
 loops = 1
@@ -171,6 +182,24 @@ fn budgets_are_the_familys_own(rt: HostRuntime) -> Result<(), Fail> {
         match piece.outcome() {
             Outcome::CandidatesOver => assert!(rt; over),
             Outcome::PairsSpent => assert!(rt; !over),
+            _ => panic!(rt; "another outcome"),
+        }
+    }
+    Ok(())
+}
+
+#[test]
+fn a_degree_over_the_limit_ends_the_work_on_its_sector_alone(rt: HostRuntime) -> Result<(), Fail> {
+    let alloc = rt.alloc();
+    let plan = plan_of(&rt, alloc, STEEP);
+    let mut relay = opened(&rt, alloc, &plan);
+    for (worker, number, over) in [(1, 4, true), (2, 2, false)] {
+        let job = job_of(&rt, &mut relay, worker);
+        assert!(rt; job.sector == Sector(number));
+        let piece = worked(&rt, alloc, &plan, &job);
+        match piece.outcome() {
+            Outcome::DegreeOver => assert!(rt; over && piece.tails().is_empty()),
+            Outcome::Worked { .. } => assert!(rt; !over),
             _ => panic!(rt; "another outcome"),
         }
     }

@@ -1,4 +1,5 @@
 -- The factors of a sector, the vectors that its run begins with, and how that run ends.
+-- Textbook theory of syzygies: they are the members without component 0 of the module of these vectors (elimination).
 --     sector_factor p sector i          f_i: the derivative of p by the variable at place i, times that variable for
 --                                       a place of the sector
 --     sector_factors p n sector         f_1 to f_n and -p, whose syzygies are the stripped fields of the sector's module

@@ -1,4 +1,5 @@
 -- The fields that vectors stand for.
+-- Notation alone: a field is a vector of a free module of rank n + 1.
 --     IsFieldOf n v field     c_i is component i of v, and b is component n + 1, each in canonical form and within the
 --                             degree of a run
 use Rattle.std.specs.Prelude.{◌≡◌, ℕ, ◌+◌, ◌<◌, ◌≤◌, sum, length, slice_index_or, []}

@@ -1,4 +1,5 @@
 -- The generators of a sector, as contracts see them.
+-- Notation alone.
 --     GeneratorsValue     a sector and its stripped fields
 use Rattle.std.specs.Prelude.{List}
 use Rattle.sector_lattice.specs.declared.sector.Sector.{Sector}

@@ -1,5 +1,7 @@
 -- The reduced basis of the module K_S of a sector. The fields of K_S range over polynomials in z_1 to z_n: a
 -- monomial has nine exponents, of which those from place n on are zero.
+-- The module is that of the module intersection method (Boehm, Georgoudis, Larsen, Schoenemann, Zhang); reduced
+-- Groebner bases of submodules of free modules are textbook theory (Buchberger).
 --     vector_of first fs             the vector with these polynomials at the components from `first` on
 --     field_vector field             the field as a vector in canonical form: component i is c_i, and component n + 1 is b
 --     IsInVariables n field          n polynomials and a factor in the variables z_1 to z_n

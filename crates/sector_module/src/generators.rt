@@ -5,7 +5,7 @@ ghost use Rattle.std.specs.Prelude.{◌≡◌, IfOk};
 use family_file::StrippedField;
 use ibp_base::{List, NoMemory};
 use sector_lattice::Sector;
-use sparse_poly::Poly;
+use sparse_poly::copy_polynomials;
 use std::alloc::Global;
 use std::marker::Model;
 
@@ -62,27 +62,8 @@ impl Generators {
 fn copy_field(alloc: Global, field: &StrippedField) -> Result<StrippedField, NoMemory>
     ensures { IfOk result (λ copy. copy ≡ field.now) }
 {
-    let c = copy_polys(alloc, field.c.as_slice())?;
-    let b = copy_poly(alloc, &field.b)?;
     Ok(StrippedField {
-        c: List::from_vec(c),
-        b,
+        c: copy_polynomials(alloc, field.c.as_slice())?,
+        b: field.b.copy(alloc)?,
     })
-}
-
-pub(crate) fn copy_polys(alloc: Global, polynomials: &[Poly]) -> Result<Vec<Poly>, NoMemory>
-    ensures { IfOk result (λ copies. copies.items ≡ polynomials.now) }
-{
-    let mut copies = Vec::new(alloc);
-    for polynomial in polynomials {
-        copies.push(copy_poly(alloc, polynomial)?)?;
-    }
-    Ok(copies)
-}
-
-pub(crate) fn copy_poly(alloc: Global, polynomial: &Poly) -> Result<Poly, NoMemory>
-    ensures { IfOk result (λ copy. copy ≡ polynomial.now) }
-{
-    let copy = Poly::from_terms(alloc, polynomial.terms())?;
-    Ok(copy)
 }

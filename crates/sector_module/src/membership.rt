@@ -5,7 +5,7 @@ ghost use Rattle.mono_order.specs.declared.limits.TheConstants.{RUN_DEGREE};
 ghost use Rattle.family_file.specs.Shapes.{IsField};
 ghost use Rattle.family_file.specs.Conditions.{IsInSectorModule};
 
-use crate::factors::{factor, product};
+use crate::factors::factor;
 use family_file::{Family, StrippedField};
 use ibp_base::NoMemory;
 use sector_lattice::Sector;
@@ -28,8 +28,8 @@ pub fn is_member(
     let mut sum = Poly::zero(alloc);
     for i in 0..c.len() {
         let factor = factor(alloc, family, sector, i as u8 + 1)?;
-        let product = product(alloc, &c[i], &factor)?;
+        let product = c[i].product(alloc, &factor)?;
         sum = sum.add(alloc, &product)?;
     }
-    Ok(sum == product(alloc, &field.b, &family.baikov)?)
+    Ok(sum == field.b.product(alloc, &family.baikov)?)
 }

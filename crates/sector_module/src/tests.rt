@@ -2,13 +2,12 @@ ghost use Rattle.std.specs.Prelude.{IfOk};
 ghost use Rattle.mono_order.specs.declared.limits.TheConstants.{RUN_DEGREE};
 ghost use Rattle.family_file.specs.Shapes.{IsField};
 
-use crate::generators::{copy_poly, copy_polys};
 use crate::{Generators, is_member, sector_basis};
 use family_file::{Family, Need, StrippedField, read_family};
-use ibp_base::List;
 use module_basis::BasisFault;
 use poly_text::{Numbers, parse_poly};
 use sector_lattice::Sector;
+use sparse_poly::copy_polynomials;
 use std::alloc::Global;
 use std::test::Fail;
 
@@ -127,8 +126,8 @@ fn has_polynomials(alloc: Global, fields: &[StrippedField], texts: &[&str]) -> R
     let numbers = Numbers::empty(alloc);
     let mut found = Vec::new(alloc);
     for field in fields {
-        found.extend(copy_polys(alloc, field.c.as_slice())?)?;
-        found.push(copy_poly(alloc, &field.b)?)?;
+        found.extend(copy_polynomials(alloc, field.c.as_slice())?.into_vec())?;
+        found.push(field.b.copy(alloc)?)?;
     }
     if found.len() != texts.len() {
         return Ok(false);
@@ -183,11 +182,9 @@ fn probed(alloc: Global, family: &Family) -> Result<StrippedField, Fail>
     let Some(probe) = &family.probe else {
         return Err("no probe")?;
     };
-    let c = copy_polys(alloc, probe.field.a.as_slice())?;
-    let b = copy_poly(alloc, &probe.field.b)?;
     Ok(StrippedField {
-        c: List::from_vec(c),
-        b,
+        c: copy_polynomials(alloc, probe.field.a.as_slice())?,
+        b: probe.field.b.copy(alloc)?,
     })
 }
 

@@ -18,7 +18,7 @@ use sector_lattice::Sector;
 use sparse_poly::Poly;
 use std::alloc::Global;
 
-// The vectors f_i e_0 + e_i, and last -P e_0 + e_(n+1).
+/// The vectors f_i e_0 + e_i, and last -P e_0 + e_(n+1).
 pub(crate) fn generators(
     alloc: Global,
     family: &Family,
@@ -68,7 +68,7 @@ fn generator(alloc: Global, f: &Poly, i: u8) -> Result<Vector<ZeroDominates>, No
     }
 }
 
-// The fields of vectors with the components 1 to n + 1.
+/// The fields of vectors with the components 1 to n + 1.
 pub(crate) fn fields_of(
     alloc: Global,
     n: u8,

@@ -10,6 +10,7 @@ use Rattle.poly_text.specs.declared.limits.TheConstants.{DEGREE_LIMIT}
 use Rattle.ibp_relation.specs.Shifts.{HasDegree}
 use Rattle.ibp_relation.proofs.Degrees.{HasDegree-more}
 use Rattle.ibp_relation.proofs.UnstrippedForms.{length-unstripped, unstripped_degrees, candidate_none_rises}
+use Rattle.ibp_relation.proofs.SeedSectors.{module_at}
 use Rattle.ibp_relation.proofs.relation.candidate.Goals as goal
 
 pub unstripped-requires-clause-few : goal.unstripped-requires-clause-few
@@ -39,7 +40,7 @@ row_of-requires-clause-meets c =
     let field = c.args.field.now in
     let in_sector = in_sector_of c.args.seed.now in
     let made : c.deref.result.now ≡ unstripped in_sector field.c = c.deref.ensures.value ∙ c.in_ok-a.ensures ∙ ap (unstripped in_sector) c.as_slice.ensures in
-    subst (λ (a : List Polynomial). MeetsConditions family.baikov in_sector a field.b) (sym made) c.requires.member
+    subst (λ (a : List Polynomial). MeetsConditions family.baikov in_sector a field.b) (sym made) (module_at family.baikov c.args.seed.now field c.requires.member)
 
 pub returns-clause-row : goal.returns-clause-row
 returns-clause-row c =
@@ -56,10 +57,12 @@ pub returns-clause-no_rise : goal.returns-clause-no_rise
 returns-clause-no_rise c =
     let family = c.args.family.now in
     candidate_none_rises family.n DEGREE_LIMIT family.gamma family.baikov c.args.field.now.c c.args.field.now.b c.args.seed.now family.limits.few_variables
-    family.limits.polynomial family.limits.not_zero c.requires.field c.requires.seed c.requires.member
+    family.limits.polynomial family.limits.not_zero c.requires.field c.requires.seed
+    (module_at family.baikov c.args.seed.now c.args.field.now c.requires.member)
 
 pub returns-in_err-a-clause-no_rise : goal.returns-in_err-a-clause-no_rise
 returns-in_err-a-clause-no_rise c =
     let family = c.args.family.now in
     candidate_none_rises family.n DEGREE_LIMIT family.gamma family.baikov c.args.field.now.c c.args.field.now.b c.args.seed.now family.limits.few_variables
-    family.limits.polynomial family.limits.not_zero c.requires.field c.requires.seed c.requires.member
+    family.limits.polynomial family.limits.not_zero c.requires.field c.requires.seed
+    (module_at family.baikov c.args.seed.now c.args.field.now c.requires.member)

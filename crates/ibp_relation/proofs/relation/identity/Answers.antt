@@ -4,10 +4,13 @@ use Rattle.ibp_algebra.specs.Polynomial.{Polynomial}
 use Rattle.ibp_algebra.specs.Field.{MeetsConditions}
 use Rattle.ibp_algebra.specs.Identity.{in_sector_of}
 use Rattle.mono_order.specs.declared.limits.TheConstants.{MONO_DEGREE}
+use Rattle.sector_lattice.specs.Sectors.{sector_of}
 use Rattle.poly_text.specs.declared.limits.TheConstants.{DEGREE_LIMIT}
+use Rattle.family_file.specs.Conditions.{MeetsTwoConditions}
 use Rattle.ibp_relation.specs.Shifts.{HasDegree}
 use Rattle.ibp_relation.proofs.Degrees.{HasDegree-more, fields_degree}
 use Rattle.ibp_relation.proofs.Outcomes.{none_rises}
+use Rattle.ibp_relation.proofs.SeedSectors.{conditions_at}
 use Rattle.ibp_relation.proofs.relation.identity.Goals as goal
 
 pub row_of-requires-clause-degrees : goal.row_of-requires-clause-degrees
@@ -18,10 +21,18 @@ row_of-requires-clause-degrees c =
 pub row_of-requires-clause-degree : goal.row_of-requires-clause-degree
 row_of-requires-clause-degree c = HasDegree-more DEGREE_LIMIT MONO_DEGREE c.args.field.now.b (omega arith) c.requires.field.factor.degree_within
 
+pub row_of-requires-clause-meets : goal.row_of-requires-clause-meets
+row_of-requires-clause-meets c =
+    let family = c.args.family.now in
+    let field = c.args.field.now in
+    let meets : MeetsTwoConditions family.baikov (sector_of c.args.seed.now) field = search rules in
+    let at = conditions_at family.baikov c.args.seed.now field meets in
+    subst (λ (a : List Polynomial). MeetsConditions family.baikov (in_sector_of c.args.seed.now) a field.b) (sym c.as_slice-a.ensures) at
+
 pub returns-clause-no_rise : goal.returns-clause-no_rise
 returns-clause-no_rise c =
     let family = c.args.family.now in
     let field = c.args.field.now in
-    let meets : MeetsConditions family.baikov (in_sector_of c.args.seed.now) field.a field.b = search rules in
+    let meets : MeetsTwoConditions family.baikov (sector_of c.args.seed.now) field = search rules in
     none_rises family.n DEGREE_LIMIT DEGREE_LIMIT family.gamma family.baikov field.a field.b c.args.seed.now family.limits.few_variables family.limits.polynomial family.limits.not_zero
-    c.requires.field c.requires.seed meets
+    c.requires.field c.requires.seed (conditions_at family.baikov c.args.seed.now field meets)

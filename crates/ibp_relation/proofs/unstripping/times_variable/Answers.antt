@@ -1,5 +1,9 @@
-use Rattle.std.proofs.Common.{◌-◌, ◌<◌, ℕ, List, [], ◌∷◌, set, replicate, subst, arith}
-use Rattle.ibp_algebra.specs.Polynomial.{SamePolynomial}
+use Rattle.std.proofs.Common.{◌≡◌, ◌-◌, ◌<◌, ℕ, List, [], ◌∷◌, Ok, Err, set, replicate, subst, arith}
+use Rattle.std.specs.Prelude.{IfOk}
+use Rattle.ibp_algebra.specs.Exponents.{deg_rev_lex}
+use Rattle.ibp_algebra.specs.Field.{variable}
+use Rattle.ibp_algebra.specs.FormalSum.{IsCanonical}
+use Rattle.ibp_algebra.specs.Polynomial.{SamePolynomial, multiply}
 use Rattle.mono_order.specs.declared.limits.TheConstants.{RUN_DEGREE, VARIABLES}
 use Rattle.ibp_relation.proofs.Degrees.{degree_within}
 use Rattle.ibp_relation.proofs.UnstrippedForms.{product_by_variable, variable_degree}
@@ -25,5 +29,7 @@ returns c =
     subst (λ (m : List ℕ). SamePolynomial factor ((m, 1) ∷ [])) c.variable.ensures
     (subst (λ n. SamePolynomial factor ((c.variable.result, n) ∷ [])) c.one.ensures c.in_ok-factor.ensures.sum)
     in
-    product_by_variable place factor c.in_ok-moved.moved c.args.poly.now within same c.requires.nine c.requires.degree c.requires.canonical
-    c.in_ok-moved.ensures.canonical c.in_ok-moved.ensures.product
+    elim c.product.result as (λ r. IfOk r (IsCanonical deg_rev_lex) → IfOk r (λ p. SamePolynomial p (multiply factor c.args.poly.now)) → IfOk r (λ p. p ≡ multiply (variable place) c.args.poly.now)) [
+      | Ok moved ↦ λ canonical product. product_by_variable place factor moved c.args.poly.now within same c.requires.nine c.requires.degree c.requires.canonical canonical product
+      | Err fault ↦ λ canonical product. tt
+    ] c.product.ensures.canonical c.product.ensures.product

@@ -18,5 +18,5 @@ returns-then-power-gt0 c =
 pub returns-else-power-gt0 : goal.returns-else-power-gt0
 returns-else-power-gt0 c =
     let outside : c.power.result ≤ℤ pos 0 = omega (arith, ints) in
-    IfOk-weaker c.copied.result _ _ (λ a e. e ∙ outside_factor c.args.seed.now (c.args.i - 1) c.power.result c.args.poly.now c.power.ensures.value outside)
-    c.copied.ensures
+    IfOk-weaker c.copy.result _ _ (λ a e. e ∙ outside_factor c.args.seed.now (c.args.i - 1) c.power.result c.args.poly.now c.power.ensures.value outside)
+    c.copy.ensures

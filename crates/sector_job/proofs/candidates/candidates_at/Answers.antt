@@ -2,14 +2,15 @@ use Rattle.std.proofs.Common.{sym, subst}
 use Rattle.family_file.specs.FamilyView.{family_view}
 use Rattle.family_file.specs.Conditions.{IsInSectorModule}
 use Rattle.family_file.specs.declared.parts.StrippedField.{StrippedField}
-use Rattle.sector_job.proofs.SeedPowers.{member_at}
 use Rattle.sector_job.proofs.Listing.{front_more}
 use Rattle.sector_job.proofs.candidates.candidates_at.Goals as goal
 
 pub candidate-requires-clause-member : goal.candidate-requires-clause-member
 candidate-requires-clause-member c =
-    member_at c.args.family.now.baikov c.args.sector.0 c.args.seed.now c.field-item.result c.requires.of_sector
-    (subst (λ (f : StrippedField). IsInSectorModule c.args.family.now.baikov c.args.sector.0 f) (sym c.field-item.is) (c.requires.members c.loop-field.field-index c.field-item.result c.loop-field-test.true))
+    let baikov = c.args.family.now.baikov in
+    let member = c.requires.members c.loop-field.field-index c.field-item.result c.loop-field-test.true in
+    subst (λ s. IsInSectorModule baikov s c.field-item.result) (sym c.requires.of_sector)
+    (subst (λ (f : StrippedField). IsInSectorModule baikov c.args.sector.0 f) (sym c.field-item.is) member)
 
 pub loop-field-preserved : goal.loop-field-preserved
 loop-field-preserved c =

@@ -1,4 +1,8 @@
-use Rattle.std.proofs.Common.{◌≡◌, ◌-◌, ◌<◌, length, true, sym, ◌∙◌, arith}
+use Rattle.std.proofs.Common.{◌≡◌, ◌-◌, ◌<◌, ◌≤◌, Ok, Err, length, sum, true, sym, ◌∙◌, arith}
+use Rattle.std.specs.Prelude.{IfOk}
+use Rattle.std.proofs.lemmas.Result.{IfOk-weaker}
+use Rattle.ibp_algebra.specs.Exponents.{deg_rev_lex}
+use Rattle.ibp_algebra.specs.FormalSum.{AllKeys, IsCanonical}
 use Rattle.ibp_algebra.specs.Polynomial.{SamePolynomial, derivative, multiply}
 use Rattle.ibp_algebra.specs.Field.{variable}
 use Rattle.ibp_algebra.proofs.Combinations.{AllKeys-weaker}
@@ -27,7 +31,7 @@ returns-then-not-is_inside-clause-degrees c =
     degrees_more 24 25 c.in_ok-derivative.derivative (omega arith)
     (derived_degrees 24 (c.args.i - 1) c.in_ok-derivative.derivative family.baikov c.in_ok-derivative.ensures.canonical c.in_ok-derivative.ensures.derivative family.limits.polynomial.degree_within)
 
-raised : (c : goal.After-drop-derivative-inside-2) → SamePolynomial c.in_ok-raised.raised (multiply (variable (c.args.i - 1)) (derivative (c.args.i - 1) c.args.family.now.baikov))
+raised : (c : goal.After-drop-derivative-inside-2) → IfOk c.product.result (λ f. SamePolynomial f (multiply (variable (c.args.i - 1)) (derivative (c.args.i - 1) c.args.family.now.baikov)))
 raised c =
     let j = c.args.i - 1 in
     let family = c.args.family.now in
@@ -35,15 +39,23 @@ raised c =
     let made : SamePolynomial c.in_ok-variable.variable (code_variable j) =
     code_variable_is j c.one.result c.variable.result c.in_ok-variable.variable c.in_ok-variable.ensures.sum c.variable.ensures c.one.ensures
     in
-    times_variable j family.baikov c.in_ok-variable.variable c.in_ok-derivative.derivative c.in_ok-raised.raised below
-    (AllKeys-weaker (HasVariables family.n) (λ m. length m ≡ 9) (λ m h. h.nine) family.baikov family.limits.polynomial.variables) made c.in_ok-derivative.ensures.derivative c.in_ok-raised.ensures.product
+    IfOk-weaker c.product.result _ _
+    (λ f product.
+    times_variable j family.baikov c.in_ok-variable.variable c.in_ok-derivative.derivative f below
+    (AllKeys-weaker (HasVariables family.n) (λ m. length m ≡ 9) (λ m h. h.nine) family.baikov family.limits.polynomial.variables) made c.in_ok-derivative.ensures.derivative product)
+    c.product.ensures.product
 
 pub returns-clause-factor : goal.returns-clause-factor
 returns-clause-factor c =
     let inside : in_sector c.args.sector.0 (c.args.i - 1) ≡ true = sym c.is_inside.ensures ∙ c.if-not-is_inside.false in
-    of_sector (in_sector c.args.sector.0 (c.args.i - 1)) c.in_ok-raised.raised _ _ inside (raised c)
+    IfOk-weaker c.product.result _ _ (λ f h. of_sector (in_sector c.args.sector.0 (c.args.i - 1)) f _ _ inside h) (raised c)
 
 pub returns-clause-degrees : goal.returns-clause-degrees
 returns-clause-degrees c =
-    let family = c.args.family.now in
-    product_degrees 24 (c.args.i - 1) c.in_ok-raised.raised family.baikov c.in_ok-raised.ensures.canonical (raised c) family.limits.polynomial.degree_within
+    let j = c.args.i - 1 in
+    let p = c.args.family.now.baikov in
+    let limits = c.args.family.now.limits in
+    elim c.product.result as (λ r. IfOk r (IsCanonical deg_rev_lex) → IfOk r (λ f. SamePolynomial f (multiply (variable j) (derivative j p))) → IfOk r (λ f. AllKeys (λ m. sum m ≤ 25) f)) [
+      | Ok f ↦ λ canonical same. product_degrees 24 j f p canonical same limits.polynomial.degree_within
+      | Err fault ↦ λ canonical same. tt
+    ] c.product.ensures.canonical (raised c)

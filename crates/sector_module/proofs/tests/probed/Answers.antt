@@ -10,7 +10,7 @@ returns c =
     let family = c.args.family.now in
     let probe = c.in-Some.probe in
     let fits : IsProbe family.n probe = family.limits.probe_fits probe c.in-Some.is in
-    let a : c.from_vec.result ≡ probe.field.a = c.from_vec.ensures ∙ c.in_ok-c.ensures ∙ c.as_slice.ensures in
+    let a : c.in_ok-copy_polynomials.field-0 ≡ probe.field.a = c.in_ok-copy_polynomials.ensures ∙ c.as_slice.ensures in
     let within = IsField-more family.n 24 250 probe.field.a probe.field.b (omega arith) fits.field in
     let polynomials = subst (λ (l : List Polynomial). IsField family.n 250 l probe.field.b) (sym a) within in
-    subst (IsField family.n 250 c.from_vec.result) (sym c.in_ok-b.ensures) polynomials
+    subst (IsField family.n 250 c.in_ok-copy_polynomials.field-0) (sym c.in_ok-copy.ensures) polynomials
