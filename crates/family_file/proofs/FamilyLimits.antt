@@ -11,25 +11,27 @@ use Rattle.ibp_algebra.specs.Polynomial.{Polynomial}
 use Rattle.mono_order.specs.declared.limits.TheConstants.{VARIABLES}
 use Rattle.poly_text.specs.declared.fault.TextFault.{TextFault}
 use Rattle.poly_text.specs.PolyText.{NumbersValue, value_in, text_answer}
-use Rattle.poly_text.specs.declared.limits.TheConstants.{DEGREE_LIMIT, TERM_LIMIT}
+use Rattle.sparse_poly.specs.declared.limits.TheConstants.{DEGREE_LIMIT, TERM_LIMIT}
 use Rattle.family_file.specs.declared.fault.FileFault.{FileFault}
 use Rattle.family_file.specs.declared.fault.FileFault.TheVariants as faults
 use Rattle.family_file.specs.declared.need.Need.{Need}
 use Rattle.family_file.specs.declared.need.Need.TheVariants as needs
-use Rattle.family_file.specs.declared.parts.Bounds.{Bounds}
-use Rattle.family_file.specs.declared.parts.Budget.{Budget}
-use Rattle.family_file.specs.declared.parts.Probe.{Probe}
+use Rattle.family.specs.declared.parts.Bounds.{Bounds}
+use Rattle.family.specs.declared.parts.Budget.{Budget}
+use Rattle.family.specs.declared.parts.Probe.{Probe}
 use Rattle.family_file.specs.Need.{needs_probe}
 use Rattle.family_file.specs.Reading.{collect}
 use Rattle.family_file.specs.Table.{PolynomialData, polynomial_text, term_list, polynomial_of}
 use Rattle.family_file.specs.Numbers.{natural}
 use Rattle.family_file.specs.Document.{HeaderKeys, BodyKeys, BoundsKeys, BudgetKeys, ProbeKeys, DocumentKeys, document_keys}
-use Rattle.family_file.specs.Shapes.{HasVariables}
-use Rattle.family_file.specs.Limits.{BoundsWithin, BudgetWithin, IsProbe, FamilyLimits}
+use Rattle.family.specs.Shapes.{HasVariables}
+use Rattle.family.specs.Limits.{BoundsWithin, BudgetWithin, IsProbe, FamilyLimits}
 use Rattle.family_file.specs.Arrays.{integer_in, list_in, powers_from, targets_of, zero_sectors_of}
 use Rattle.family_file.specs.Polynomials.{or_fault, text_in, residue_in, numbers_of, exponent_in, term_from, term_in, terms_of, polynomial_in, polynomial_value, field_of}
-use Rattle.family_file.specs.Accepted.{DataWithin, MeetsNeed}
-use Rattle.family_file.specs.Family.{ShapeData, BodyData, FamilyData, table_of_bytes, header_of, shape_of, unless_zero, bounds_of, budget_of, probe_of, needed_probe, sector_check, baikov_of, body_of, family_of_keys, family_of}
+use Rattle.family.specs.Within.{DataWithin}
+use Rattle.family_file.specs.Accepted.{MeetsNeed}
+use Rattle.family_file.specs.Family.{ShapeData, BodyData, table_of_bytes, header_of, shape_of, unless_zero, bounds_of, budget_of, probe_of, needed_probe, sector_check, baikov_of, body_of, family_of_keys, family_of}
+use Rattle.family.specs.FamilyData.{FamilyData}
 use Rattle.family_file.proofs.Binds.{bind_ok, if_ok, unless_ok, where_ok, ok_is, both_are, natural_within, collect_each, collect_length, All-each}
 use Rattle.family_file.proofs.TargetLimits.{powers_are, targets_are, AreTargets}
 use Rattle.family_file.proofs.SectorLimits.{zero_sectors_are, AreZeroSectors}

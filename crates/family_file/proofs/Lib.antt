@@ -1,4 +1,3 @@
-pub mod Places
 pub mod Keys
 pub mod Lists
 pub mod Collect
@@ -13,4 +12,3 @@ pub mod PolynomialLimits
 pub mod TextLimits
 pub mod Filling
 pub mod FamilyLimits
-pub mod SameFamily

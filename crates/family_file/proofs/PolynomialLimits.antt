@@ -21,8 +21,8 @@ use Rattle.mono_order.specs.declared.limits.TheConstants.{VARIABLES}
 use Rattle.poly_text.specs.declared.fault.TextFault.{TextFault}
 use Rattle.poly_text.specs.Tree.{Tree}
 use Rattle.poly_text.specs.Value.{constant, constant_term, is_zero, within_terms, sum_of, difference_of, product_of, quotient_of, negative_of, then_value, both_values, power_of, known_value, value}
-use Rattle.poly_text.specs.declared.limits.TheConstants.{DEGREE_LIMIT, TERM_LIMIT}
-use Rattle.family_file.specs.Shapes.{HasVariables, IsPolynomial}
+use Rattle.sparse_poly.specs.declared.limits.TheConstants.{DEGREE_LIMIT, TERM_LIMIT}
+use Rattle.family.specs.Shapes.{HasVariables, IsPolynomial}
 use Rattle.family_file.proofs.Binds.{unless_ok, ok_is}
 
 -- a polynomial of a file

@@ -14,7 +14,7 @@ use Rattle.family_file.specs.declared.fault.FileFault.{FileFault}
 use Rattle.family_file.specs.declared.fault.FileFault.TheVariants.{Targets}
 use Rattle.family_file.specs.Reading.{collect}
 use Rattle.family_file.specs.Arrays.{power_in, powers_from, powers_in, integer_in, list_in, targets_in, first_occurrences, targets_of}
-use Rattle.family_file.specs.Shapes.{ArePowers}
+use Rattle.family.specs.Shapes.{ArePowers}
 use Rattle.family_file.proofs.FirstOccurrences.{first_occurrences_each, first_occurrences_length, first_occurrences_distinct}
 use Rattle.family_file.proofs.Binds.{bind_ok, where_ok, unless_ok, ok_is, whole_within, collect_each, collect_length, All-each}
 

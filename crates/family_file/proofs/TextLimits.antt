@@ -14,8 +14,8 @@ use Rattle.poly_text.specs.Tree.{Tree}
 use Rattle.poly_text.specs.Grammar.{tree_of}
 use Rattle.poly_text.specs.PolyText.{is_variable_name, variable_named, names_of, tree_value, text_answer}
 use Rattle.poly_text.specs.Value.{constant, variable}
-use Rattle.poly_text.specs.declared.limits.TheConstants.{DEGREE_LIMIT}
-use Rattle.family_file.specs.Shapes.{HasVariables}
+use Rattle.sparse_poly.specs.declared.limits.TheConstants.{DEGREE_LIMIT}
+use Rattle.family.specs.Shapes.{HasVariables}
 use Rattle.family_file.proofs.Binds.{both_are}
 use Rattle.family_file.proofs.PolynomialLimits.{IsRead, no_exponents, read_constant, NamesAre, value_read}
 

@@ -1,13 +1,8 @@
--- What is known of the family of an accepted file.
+-- What is known of the family of an accepted file beside its limits.
 use Rattle.std.specs.Prelude.{◌≡◌, ℕ, ◌<◌, ◌^◌, IsSome}
 use Rattle.family_file.specs.declared.need.Need.{Need}
 use Rattle.family_file.specs.declared.need.Need.TheVariants as needs
-use Rattle.family_file.specs.Limits.{FamilyLimits}
-use Rattle.family_file.specs.Family.{FamilyData}
-
--- it is within the limits
-abbrev pub DataWithin : FamilyData → Type 0
-DataWithin f = FamilyLimits f.n f.baikov f.targets f.zero f.bounds f.budget f.probe
+use Rattle.family.specs.FamilyData.{FamilyData}
 
 -- what is needed is there
 pub record MeetsNeed (need : Need) (family : FamilyData) : Type 0 where

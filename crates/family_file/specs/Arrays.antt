@@ -10,7 +10,7 @@ use Rattle.std.specs.List.{filter, list_any, position_or_len}
 use Rattle.toml.specs.Data.{Data, as_integer}
 use Rattle.ibp_algebra.specs.Laurent.{same_powers}
 use Rattle.sector_lattice.specs.declared.sector.Sector.{Sector}
-use Rattle.family_file.specs.declared.ranges.TheConstants.{LEAST_POWER, GREATEST_POWER, TARGET_LIMIT, SECTOR_LIMIT}
+use Rattle.family.specs.declared.limits.TheConstants.{LEAST_POWER, GREATEST_POWER, TARGET_LIMIT, SECTOR_LIMIT}
 use Rattle.family_file.specs.declared.fault.FileFault.{FileFault}
 use Rattle.family_file.specs.declared.fault.FileFault.TheVariants.{Targets, ZeroSectors}
 use Rattle.family_file.specs.Reading.{◌>>=◌, collect}

@@ -11,18 +11,20 @@ use Rattle.mono_order.specs.declared.limits.TheConstants.{VARIABLES}
 use Rattle.poly_text.specs.PolyText.{NumbersValue}
 use Rattle.poly_text.specs.Value.{is_zero}
 use Rattle.sector_lattice.specs.declared.sector.Sector.{Sector}
-use Rattle.family_file.specs.declared.ranges.TheConstants.{LOOP_LIMIT, LEG_LIMIT, CAP_LIMIT, EXTRA_LIMIT, PAIR_LIMIT, CANDIDATE_LIMIT, MAX_FILE}
+use Rattle.family_file.specs.declared.limits.TheConstants.{LOOP_LIMIT, LEG_LIMIT, MAX_FILE}
+use Rattle.family.specs.declared.limits.TheConstants.{CAP_LIMIT, EXTRA_LIMIT, PAIR_LIMIT, CANDIDATE_LIMIT}
 use Rattle.family_file.specs.declared.fault.FileFault.{FileFault}
 use Rattle.family_file.specs.declared.fault.FileFault.TheVariants.{TooLong, NotToml, Header, Shape, Number, Baikov, ZeroBaikov, Limits, Budget, Probe, NoSector}
 use Rattle.family_file.specs.declared.need.Need.{Need}
 use Rattle.family_file.specs.declared.need.Need.TheVariants as needs
-use Rattle.family_file.specs.declared.parts.Bounds.{Bounds}
-use Rattle.family_file.specs.declared.parts.Budget.{Budget as BudgetParts}
-use Rattle.family_file.specs.declared.parts.Probe.{Probe as ProbeParts}
+use Rattle.family.specs.declared.parts.Bounds.{Bounds}
+use Rattle.family.specs.declared.parts.Budget.{Budget as BudgetParts}
+use Rattle.family.specs.declared.parts.Probe.{Probe as ProbeParts}
+use Rattle.family.specs.FamilyData.{FamilyData}
 use Rattle.family_file.specs.Need.{needs_probe}
 use Rattle.family_file.specs.Reading.{◌>>=◌}
 use Rattle.family_file.specs.Numbers.{natural}
-use Rattle.family_file.specs.Name.{name_of}
+use Rattle.family.specs.Name.{name_of}
 use Rattle.family_file.specs.Document.{HeaderKeys, BodyKeys, BoundsKeys, BudgetKeys, ProbeKeys, DocumentKeys, document_keys}
 use Rattle.family_file.specs.Arrays.{powers_from, targets_of, zero_sectors_of}
 use Rattle.family_file.specs.Polynomials.{polynomial_in, field_of, residue_in, numbers_of}
@@ -38,17 +40,6 @@ pub record BodyData : Type 0 where
   pub baikov : Polynomial
   pub zero : List Sector
   pub targets : List (List ℤ)
-
-pub record FamilyData : Type 0 where
-  pub name : List ℕ
-  pub n : ℕ
-  pub gamma : ℕ
-  pub baikov : Polynomial
-  pub targets : List (List ℤ)
-  pub zero : List Sector
-  pub bounds : Bounds
-  pub budget : BudgetParts
-  pub probe : Option ProbeParts
 
 -- the table of the document that the bytes are
 unfoldable pub table_of_bytes : List ℕ → Result Members FileFault

@@ -1,7 +1,3 @@
-pub mod Name
-pub mod Shapes
-pub mod Limits
-pub mod Conditions
 pub mod Reading
 pub mod Table
 pub mod KeyViews
@@ -15,5 +11,4 @@ pub mod Polynomials
 pub mod Accumulated
 pub mod Family
 pub mod Accepted
-pub mod FamilyView
 pub mod ReadViews

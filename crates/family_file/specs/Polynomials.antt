@@ -13,8 +13,8 @@ use Rattle.ibp_algebra.specs.Polynomial.{Polynomial}
 use Rattle.mono_order.specs.declared.limits.TheConstants.{VARIABLES}
 use Rattle.poly_text.specs.declared.fault.TextFault.{TextFault}
 use Rattle.poly_text.specs.PolyText.{NumbersValue, value_in, text_answer, number_answer, is_number_name}
-use Rattle.poly_text.specs.declared.limits.TheConstants.{DEGREE_LIMIT, TERM_LIMIT}
-use Rattle.family_file.specs.declared.ranges.TheConstants.{NUMBER_LIMIT}
+use Rattle.sparse_poly.specs.declared.limits.TheConstants.{DEGREE_LIMIT, TERM_LIMIT}
+use Rattle.family_file.specs.declared.limits.TheConstants.{NUMBER_LIMIT}
 use Rattle.family_file.specs.declared.fault.FileFault.{FileFault}
 use Rattle.family_file.specs.declared.fault.FileFault.TheVariants.{Number}
 use Rattle.family_file.specs.Reading.{◌>>=◌, collect}

@@ -8,8 +8,8 @@ ghost use Rattle.family_file.specs.Arrays.{integer_in, list_in, power_in, powers
 
 use crate::fault::{FamilyFault, FileFault};
 use crate::numbers::whole;
-use crate::ranges::{GREATEST_POWER, LEAST_POWER, TARGET_LIMIT};
 use crate::table::as_list;
+use family::{GREATEST_POWER, LEAST_POWER, TARGET_LIMIT};
 use indexmap::IndexSet;
 use sector_lattice::Integral;
 use std::alloc::Global;

@@ -1,25 +1,17 @@
 //! Laws of the definitions.
 
-ghost use Rattle.std.specs.Prelude.{◌≡◌, ◌↔◌, ℕ, ℤ, List, Ok, IsTrue, Contains, map};
+ghost use Rattle.std.specs.Prelude.{◌≡◌, ◌↔◌, ℕ, ℤ, List, Ok, Contains, map};
 ghost use Rattle.std.specs.List.{IsDistinct};
 ghost use Rattle.std.specs.List.Sorted.{IsStrictlySortedBy};
 ghost use Rattle.std.specs.Ordering.{nat_cmp};
-ghost use Rattle.ibp_algebra.specs.Identity.{in_sector_of};
 ghost use Rattle.ibp_algebra.specs.Laurent.{same_powers};
-ghost use Rattle.sector_lattice.specs.Sectors.{sector_of};
-ghost use Rattle.family_file.specs.Accepted.{DataWithin, MeetsNeed};
+ghost use Rattle.family.specs.Within.{DataWithin};
+ghost use Rattle.family_file.specs.declared.limits.TheConstants.{MAX_FILE, LOOP_LIMIT, LEG_LIMIT, NUMBER_LIMIT};
+ghost use Rattle.family_file.specs.Accepted.{MeetsNeed};
 ghost use Rattle.family_file.specs.Arrays.{first_occurrences, first_place};
-ghost use Rattle.family_file.specs.Conditions.{in_sector};
-ghost use Rattle.family_file.specs.Family.{FamilyData, family_of};
-ghost use Rattle.family_file.specs.FamilyView.{family_view};
+ghost use Rattle.family.specs.FamilyData.{FamilyData};
+ghost use Rattle.family_file.specs.Family.{family_of};
 ghost use Rattle.family_file.specs.declared.need.Need.{Need};
-
-use crate::family::Family;
-
-/// The places of a sector are those of the positive powers of each of its integrals.
-pub fn places_are_positive_powers()
-    ensures { (powers : List ℤ) (i : ℕ) → in_sector (sector_of powers) i ≡ in_sector_of powers i }
-{}
 
 /// The family of each accepted file is within the limits, and what is needed is there.
 pub fn accepted_files_keep_the_limits()
@@ -37,9 +29,10 @@ pub fn targets_are_those_of_the_file()
     ensures order { (targets : List (List ℤ)) → IsStrictlySortedBy nat_cmp (map (first_place targets) (first_occurrences targets)) }
 {}
 
-/// What `==` answers for two families: whether they are the same in each part.
-pub fn are_equal(left: &Family, right: &Family) -> bool
-    ensures { IsTrue result ↔ (family_view left.now ≡ family_view right.now) }
-{
-    left == right
-}
+/// The limits of a file beside those of its family, as numbers.
+pub fn limits_of_files()
+    ensures file { MAX_FILE ≡ 1048576 }
+    ensures loops { LOOP_LIMIT ≡ 3 }
+    ensures legs { LEG_LIMIT ≡ 8 }
+    ensures numbers { NUMBER_LIMIT ≡ 64 }
+{}

@@ -2,32 +2,26 @@
 #![tactic(auto)]
 
 mod arrays;
-mod copy;
 mod document;
-mod family;
 mod fault;
 pub mod laws;
-mod name;
+mod limits;
 mod named;
 mod need;
 mod numbers;
-mod parts;
 mod polynomials;
-mod ranges;
 mod read;
 mod sectors;
 mod table;
-mod zero;
 
-pub use family::Family;
-pub use fault::{FamilyFault, FileFault};
-pub use name::Name;
-pub use need::Need;
-pub use parts::{Bounds, Budget, Field, Probe, StrippedField};
-pub use ranges::{
-    CANDIDATE_LIMIT, CAP_LIMIT, EXTRA_LIMIT, FAMILY_NAME_LIMIT, GREATEST_POWER, LEAST_POWER,
-    LEG_LIMIT, LOOP_LIMIT, MAX_FILE, NUMBER_LIMIT, PAIR_LIMIT, SECTOR_LIMIT, TARGET_LIMIT,
+pub use family::{
+    Bounds, Budget, CANDIDATE_LIMIT, CAP_LIMIT, EXTRA_LIMIT, FAMILY_NAME_LIMIT, Family, Field,
+    GREATEST_POWER, LEAST_POWER, Name, PAIR_LIMIT, Probe, SECTOR_LIMIT, StrippedField,
+    TARGET_LIMIT,
 };
+pub use fault::{FamilyFault, FileFault};
+pub use limits::{LEG_LIMIT, LOOP_LIMIT, MAX_FILE, NUMBER_LIMIT};
+pub use need::Need;
 pub use read::read_family;
 
 #[cfg(test)]

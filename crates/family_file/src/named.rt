@@ -9,8 +9,8 @@ ghost use Rattle.family_file.specs.Table.{entries_list};
 ghost use Rattle.family_file.specs.Polynomials.{named_number, numbers_in, numbers_of};
 
 use crate::fault::{FamilyFault, FileFault};
+use crate::limits::NUMBER_LIMIT;
 use crate::polynomials::residue_in;
-use crate::ranges::NUMBER_LIMIT;
 use crate::table::number;
 use ibp_field::Residue;
 use poly_text::{Numbers, is_number_name};

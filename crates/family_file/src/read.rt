@@ -3,30 +3,28 @@
 ghost use Rattle.std.specs.Prelude.{◌≡◌, ◌≤◌, IfOk, option_map};
 ghost use Rattle.toml.specs.View.{table_view};
 ghost use Rattle.mono_order.specs.declared.limits.TheConstants.{VARIABLES};
-ghost use Rattle.family_file.specs.declared.ranges.TheConstants.{LOOP_LIMIT, LEG_LIMIT};
+ghost use Rattle.family_file.specs.declared.limits.TheConstants.{LOOP_LIMIT, LEG_LIMIT};
 ghost use Rattle.family_file.specs.Reading.{Returns, Gives};
 ghost use Rattle.family_file.specs.Document.{document_keys};
 ghost use Rattle.family_file.specs.Views.{header_view, body_view, bounds_view, budget_view, probe_view, document_view};
 ghost use Rattle.family_file.specs.Family.{table_of_bytes, header_of, shape_of, gamma_of, unless_zero, bounds_of, budget_of, probe_of, needed_probe, sector_check, baikov_of, body_of, family_of_keys, family_of};
 ghost use Rattle.family_file.specs.ReadViews.{shape_view, read_body_view};
-ghost use Rattle.family_file.specs.FamilyView.{family_view};
+ghost use Rattle.family.specs.FamilyView.{family_view};
 
 use crate::arrays::{integral_from, targets_of};
 use crate::document::{
     BodyKeys, BoundsKeys, BudgetKeys, DocumentKeys, HeaderKeys, ProbeKeys, document_keys,
 };
-use crate::family::Family;
 use crate::fault::{FamilyFault, FileFault};
-use crate::name::Name;
+use crate::limits::{LEG_LIMIT, LOOP_LIMIT, MAX_FILE};
 use crate::named::numbers_of;
 use crate::need::Need;
 use crate::numbers::natural;
-use crate::parts::{Bounds, Budget, Field, Probe};
 use crate::polynomials::{field_of, polynomial_in, residue_in};
-use crate::ranges::{
-    CANDIDATE_LIMIT, CAP_LIMIT, EXTRA_LIMIT, LEG_LIMIT, LOOP_LIMIT, MAX_FILE, PAIR_LIMIT,
-};
 use crate::sectors::zero_sectors_of;
+use family::{
+    Bounds, Budget, CANDIDATE_LIMIT, CAP_LIMIT, EXTRA_LIMIT, Family, Field, Name, PAIR_LIMIT, Probe,
+};
 use ibp_base::List;
 use ibp_field::Residue;
 use mono_order::VARIABLES;

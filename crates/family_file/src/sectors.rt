@@ -10,7 +10,7 @@ ghost use Rattle.family_file.specs.Arrays.{place_in, are_distinct, sector_number
 use crate::arrays::{integer_in, list_in};
 use crate::fault::{FamilyFault, FileFault};
 use crate::numbers::natural;
-use crate::ranges::SECTOR_LIMIT;
+use family::SECTOR_LIMIT;
 use sector_lattice::Sector;
 use std::alloc::Global;
 use toml::value::{Array, Value};

@@ -11,7 +11,7 @@ use Rattle.ibp_algebra.proofs.SumOfExponents.{sum-set}
 use Rattle.ibp_algebra.proofs.Terms.{coefficient-CountingKeys, AllKeys-canonical}
 use Rattle.ibp_algebra.proofs.Divisibility.{CountingKeys-from_all}
 use Rattle.ibp_algebra.proofs.Combinations.{AllKeys-weaker}
-use Rattle.family_file.specs.Shapes.{IsPolynomial}
+use Rattle.family.specs.Shapes.{IsPolynomial}
 use Rattle.ibp_relation.specs.Shifts.{HasDegree}
 
 -- what holds of each term of a sum holds of each term of a canonical one with the same coefficients

@@ -14,8 +14,8 @@ use Rattle.ibp_algebra.specs.Laurent.{power_at}
 use Rattle.ibp_algebra.specs.Field.{IsDividedAt}
 use Rattle.ibp_algebra.specs.Identity.{in_sector_of}
 use Rattle.sector_lattice.specs.Sectors.{sector_of}
-use Rattle.family_file.specs.Conditions.{in_sector}
-use Rattle.family_file.proofs.Places.{in_sector-sector_of}
+use Rattle.family.specs.Conditions.{in_sector}
+use Rattle.family.proofs.Places.{in_sector-sector_of}
 use Rattle.ibp_relation.specs.Conditions.{IsFirstUndivided}
 
 is_less : (A B C : Type 0) (r : Ordering) → MatchOrdering r A B C → is_lt r ≡ true → A

@@ -12,7 +12,7 @@ use Rattle.ibp_algebra.specs.ExponentOrder.{exponents_decide}
 use Rattle.ibp_algebra.specs.Laurent.{same_powers, SameLaurent, laurent}
 use Rattle.ibp_algebra.specs.Identity.{HasPowers}
 use Rattle.mono_order.specs.declared.limits.TheConstants.{VARIABLES}
-use Rattle.family_file.specs.Shapes.{HasVariables}
+use Rattle.family.specs.Shapes.{HasVariables}
 use Rattle.ibp_relation.proofs.LaurentLaws.{powers_decide}
 
 natural : ℤ → ℕ

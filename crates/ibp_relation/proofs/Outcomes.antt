@@ -16,7 +16,7 @@ use Rattle.mono_order.specs.declared.limits.TheConstants.{VARIABLES}
 use Rattle.sector_lattice.specs.Sectors.{integral_cmp}
 use Rattle.sector_lattice.specs.Orders.{integral_cmp_total, same_integrals, integrals_decide}
 use Rattle.sparse_rows.specs.Rows.{SameRow}
-use Rattle.family_file.specs.Shapes.{IsPolynomial, IsField, ArePowers}
+use Rattle.family.specs.Shapes.{IsPolynomial, IsField, ArePowers}
 use Rattle.ibp_relation.specs.Conditions.{IsFirstUndivided, NoneRises}
 use Rattle.ibp_relation.specs.Shifts.{shifts}
 use Rattle.ibp_relation.specs.Uniqueness.{OneRow}

@@ -15,7 +15,7 @@ use Rattle.ibp_algebra.proofs.SumOfExponents.{get_or-le-sum}
 use Rattle.mono_order.specs.declared.limits.TheConstants.{MONO_DEGREE, VARIABLES}
 use Rattle.sector_lattice.specs.declared.integral.TheConstants.{POWER}
 use Rattle.sector_lattice.specs.Ranges.{InRange}
-use Rattle.family_file.specs.Shapes.{ArePowers}
+use Rattle.family.specs.Shapes.{ArePowers}
 use Rattle.ibp_relation.specs.Shifts.{plus_unit, powers_of}
 use Rattle.ibp_relation.proofs.NoRise.{own_unit, other_unit, power_of_sum, shifted}
 use Rattle.ibp_relation.proofs.Rows.{shifted_long, length-plus_unit}

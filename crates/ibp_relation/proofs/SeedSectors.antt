@@ -5,10 +5,10 @@ use Rattle.ibp_algebra.specs.Field.{MeetsConditions, IsInModule}
 use Rattle.ibp_algebra.specs.Identity.{in_sector_of}
 use Rattle.ibp_algebra.specs.Polynomial.{Polynomial}
 use Rattle.sector_lattice.specs.Sectors.{sector_of}
-use Rattle.family_file.specs.Conditions.{in_sector, MeetsTwoConditions, IsInSectorModule}
-use Rattle.family_file.specs.declared.parts.Field.{Field}
-use Rattle.family_file.specs.declared.parts.StrippedField.{StrippedField}
-use Rattle.family_file.proofs.Places.{in_sector-sector_of}
+use Rattle.family.specs.Conditions.{in_sector, MeetsTwoConditions, IsInSectorModule}
+use Rattle.family.specs.declared.parts.Field.{Field}
+use Rattle.family.specs.declared.parts.StrippedField.{StrippedField}
+use Rattle.family.proofs.Places.{in_sector-sector_of}
 
 places_of : (α : List ℤ) → in_sector (sector_of α) ≡ in_sector_of α
 places_of α = λ j i. in_sector-sector_of α i j

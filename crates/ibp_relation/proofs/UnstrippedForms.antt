@@ -15,7 +15,7 @@ use Rattle.ibp_algebra.proofs.Combinations.{AllKeys-weaker}
 use Rattle.mono_order.specs.Monomial.{IsMonomial}
 use Rattle.mono_order.specs.declared.limits.TheConstants.{MONO_DEGREE, RUN_DEGREE, VARIABLES}
 use Rattle.sparse_poly.proofs.Loops.{AreMonomials, IsCanonical-shift}
-use Rattle.family_file.specs.Shapes.{HasVariables, IsPolynomial, IsField, ArePowers}
+use Rattle.family.specs.Shapes.{HasVariables, IsPolynomial, IsField, ArePowers}
 use Rattle.ibp_relation.specs.Conditions.{NoneRises}
 use Rattle.ibp_relation.specs.Shifts.{HasDegree}
 use Rattle.ibp_relation.proofs.Degrees.{HasDegree-more}

@@ -7,7 +7,7 @@ use Rattle.ibp_algebra.specs.Laurent.{Laurent}
 use Rattle.ibp_algebra.specs.Identity.{IsIdentityRow}
 use Rattle.mono_order.specs.declared.limits.TheConstants.{VARIABLES}
 use Rattle.sector_lattice.specs.Sectors.{integral_cmp}
-use Rattle.family_file.specs.Shapes.{IsPolynomial}
+use Rattle.family.specs.Shapes.{IsPolynomial}
 
 abbrev pub OneRow : Type 0
 OneRow =

@@ -3,8 +3,8 @@ ghost use Rattle.std.specs.Prelude.{◌≡◌, ◌≤◌, length, All, IfOk, IfS
 ghost use Rattle.ibp_algebra.specs.Field.{IsDivided, IsTangent};
 ghost use Rattle.mono_order.specs.declared.limits.TheConstants.{VARIABLES};
 ghost use Rattle.sector_lattice.specs.Sectors.{sector_of};
-ghost use Rattle.poly_text.specs.declared.limits.TheConstants.{DEGREE_LIMIT};
-ghost use Rattle.family_file.specs.Conditions.{in_sector};
+ghost use Rattle.sparse_poly.specs.declared.limits.TheConstants.{DEGREE_LIMIT};
+ghost use Rattle.family.specs.Conditions.{in_sector};
 ghost use Rattle.ibp_relation.specs.Conditions.{IsFirstUndivided};
 ghost use Rattle.ibp_relation.specs.Shifts.{HasDegree};
 

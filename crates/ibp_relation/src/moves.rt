@@ -5,7 +5,7 @@ ghost use Rattle.ibp_algebra.specs.Identity.{negated};
 ghost use Rattle.mono_order.specs.declared.limits.TheConstants.{MONO_DEGREE};
 ghost use Rattle.sector_lattice.specs.declared.integral.TheConstants.{POWER};
 ghost use Rattle.sector_lattice.specs.Ranges.{InRange};
-ghost use Rattle.family_file.specs.Shapes.{ArePowers};
+ghost use Rattle.family.specs.Shapes.{ArePowers};
 ghost use Rattle.ibp_relation.specs.Shifts.{plus_unit, powers_of};
 
 use mono_order::{Monomial, VARIABLES};

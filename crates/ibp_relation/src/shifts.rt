@@ -3,7 +3,7 @@ ghost use Rattle.std.specs.Prelude.{◌≡◌, ◌-◌, ◌≤◌, ◌++◌, len
 ghost use Rattle.ibp_algebra.specs.FormalSum.{AllKeys};
 ghost use Rattle.ibp_algebra.specs.Laurent.{SameLaurent, laurent};
 ghost use Rattle.mono_order.specs.declared.limits.TheConstants.{MONO_DEGREE, VARIABLES};
-ghost use Rattle.family_file.specs.Shapes.{ArePowers};
+ghost use Rattle.family.specs.Shapes.{ArePowers};
 ghost use Rattle.ibp_relation.specs.Shifts.{field_shifts, factor_shifts, shifts, HasDegree};
 
 use crate::moves::{lowered, raised};

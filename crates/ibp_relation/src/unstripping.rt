@@ -7,7 +7,7 @@ ghost use Rattle.ibp_algebra.specs.Field.{variable, unstripped as unstripped_for
 ghost use Rattle.ibp_algebra.specs.Identity.{in_sector_of};
 ghost use Rattle.ibp_algebra.specs.Polynomial.{multiply};
 ghost use Rattle.mono_order.specs.declared.limits.TheConstants.{RUN_DEGREE, VARIABLES};
-ghost use Rattle.family_file.specs.Shapes.{IsPolynomial};
+ghost use Rattle.family.specs.Shapes.{IsPolynomial};
 ghost use Rattle.ibp_relation.specs.Shifts.{HasDegree};
 
 use ibp_base::NoMemory;

@@ -2,8 +2,8 @@
 use Rattle.std.proofs.Common.{◌≡◌, ◌≢◌, Ok, Err, Some, refl, sym, ◌∙◌, ap, subst}
 use Rattle.std.specs.Prelude.{◌↔◌, Option, Result, IfOk}
 use Rattle.sector_lattice.specs.declared.sector.Sector.{Sector}
-use Rattle.family_file.specs.Accepted.{DataWithin}
-use Rattle.family_file.specs.Family.{FamilyData}
+use Rattle.family.specs.Within.{DataWithin}
+use Rattle.family.specs.FamilyData.{FamilyData}
 use Rattle.sector_job.specs.declared.outcome.Outcome.{Outcome}
 use Rattle.sector_job.specs.declared.outcome.Outcome.TheVariants as outcome
 use Rattle.system_text.specs.declared.value.System.{System}

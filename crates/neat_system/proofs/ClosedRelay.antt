@@ -14,12 +14,12 @@ use Rattle.sector_lattice.specs.Sectors.{integral_cmp, sector_cmp}
 use Rattle.sector_lattice.specs.Orders.{sector_cmp_total}
 use Rattle.sector_lattice.specs.declared.sector.Sector.{Sector}
 use Rattle.sparse_rows.specs.Rows.{IntegralSum}
-use Rattle.family_file.specs.Accepted.{DataWithin}
-use Rattle.family_file.specs.Family.{FamilyData}
+use Rattle.family.specs.Within.{DataWithin}
+use Rattle.family.specs.FamilyData.{FamilyData}
 use Rattle.relation_pick.specs.Picking.{IsPick}
 use Rattle.system_text.specs.declared.value.System.{System}
-use Rattle.family_file.specs.FamilyView.{family_view}
-use Rattle.family_file.specs.declared.family.Family.{Family}
+use Rattle.family.specs.FamilyView.{family_view}
+use Rattle.family.specs.declared.family.Family.{Family}
 use Rattle.relay_core.specs.Family.{book, IsReached, MeetsEquation}
 use Rattle.relay_core.specs.Relay.{AllDone}
 use Rattle.relay_core.specs.State.{Relay}

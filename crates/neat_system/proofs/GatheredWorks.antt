@@ -11,8 +11,8 @@ use Rattle.sector_job.specs.declared.outcome.Outcome.{Outcome}
 use Rattle.sector_job.specs.declared.outcome.Outcome.TheVariants.{Worked}
 use Rattle.sector_module.specs.Generators.{GeneratorsValue}
 use Rattle.sparse_rows.specs.Rows.{IntegralSum}
-use Rattle.family_file.specs.FamilyView.{family_view}
-use Rattle.family_file.specs.Family.{FamilyData}
+use Rattle.family.specs.FamilyView.{family_view}
+use Rattle.family.specs.FamilyData.{FamilyData}
 use Rattle.neat_system.specs.declared.gathering.Gathered.{Gathered}
 use Rattle.neat_system.specs.Gathering.{IsWorkOf, Gains, Gathers}
 use Rattle.neat_system.specs.System.{SectorWork, block_of}

@@ -6,9 +6,9 @@ use Rattle.std.proofs.lemmas.List.FromFn.{length-map-range_with_len}
 use Rattle.std.proofs.Math.Pow.{pow_mono}
 use Rattle.sector_lattice.specs.Sectors.{sector_of}
 use Rattle.sector_lattice.specs.Orders.{sector_below}
-use Rattle.family_file.specs.Accepted.{DataWithin}
-use Rattle.family_file.specs.Family.{FamilyData}
-use Rattle.family_file.specs.declared.parts.StrippedField.{StrippedField}
+use Rattle.family.specs.Within.{DataWithin}
+use Rattle.family.specs.FamilyData.{FamilyData}
+use Rattle.family.specs.declared.parts.StrippedField.{StrippedField}
 use Rattle.sector_job.specs.Candidates.{Integral, labels, labels_at}
 use Rattle.sector_job.specs.Outcomes.{FitsTargets}
 use Rattle.sector_job.specs.OneOutcome.{one_ascending}

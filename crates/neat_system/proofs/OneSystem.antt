@@ -8,10 +8,10 @@ use Rattle.std.proofs.lemmas.List.Elements.{recursion_from_All, All-contains}
 use Rattle.sector_lattice.specs.Sectors.{sector_cmp, integral_cmp}
 use Rattle.sector_lattice.specs.Orders.{sector_cmp_total, same_sectors, integral_cmp_total, same_integrals}
 use Rattle.sparse_rows.specs.Rows.{IntegralSum}
-use Rattle.family_file.specs.Accepted.{DataWithin}
-use Rattle.family_file.specs.Family.{FamilyData}
-use Rattle.family_file.specs.declared.family.Family.{Family}
-use Rattle.family_file.specs.declared.parts.StrippedField.{StrippedField}
+use Rattle.family.specs.Within.{DataWithin}
+use Rattle.family.specs.FamilyData.{FamilyData}
+use Rattle.family.specs.declared.family.Family.{Family}
+use Rattle.family.specs.declared.parts.StrippedField.{StrippedField}
 use Rattle.relation_pick.specs.Picking.{IsPick}
 use Rattle.relation_pick.proofs.Uniqueness.{IsPick-unique}
 use Rattle.relay_core.specs.Family.{book, IsReached}

@@ -6,9 +6,9 @@ use Rattle.std.proofs.lemmas.Bool.{eq-eqb}
 use Rattle.sector_lattice.specs.Sectors.{sector_cmp}
 use Rattle.sector_lattice.specs.declared.sector.Sector.{Sector}
 use Rattle.sparse_rows.specs.Rows.{is_zero_integral}
-use Rattle.family_file.specs.Conditions.{is_zero_sector}
-use Rattle.family_file.specs.FamilyView.{family_view}
-use Rattle.family_file.specs.declared.family.Family.{Family}
+use Rattle.family.specs.Conditions.{is_zero_sector}
+use Rattle.family.specs.FamilyView.{family_view}
+use Rattle.family.specs.declared.family.Family.{Family}
 use Rattle.relay_core.specs.Family.{book, IsReached}
 use Rattle.relay_core.specs.Relay.{Progress, IsNext, Opens, Replays, holder_of, without, IsHeldBy, Finishes, Leads}
 use Rattle.relay_core.specs.State.{Relay, Moves, IsStranger}

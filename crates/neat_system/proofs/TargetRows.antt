@@ -9,8 +9,8 @@ use Rattle.sector_lattice.specs.Orders.{integral_cmp_total, same_integrals, inte
 use Rattle.sector_lattice.specs.Sectors.{sector_of, integral_cmp}
 use Rattle.sector_lattice.specs.declared.sector.Sector.{Sector}
 use Rattle.sparse_rows.specs.Rows.{IntegralSum, SameRow, is_zero_integral}
-use Rattle.family_file.specs.Conditions.{is_zero_sector}
-use Rattle.family_file.specs.Family.{FamilyData}
+use Rattle.family.specs.Conditions.{is_zero_sector}
+use Rattle.family.specs.FamilyData.{FamilyData}
 use Rattle.neat_system.specs.Reductions.{declared_row}
 
 pub same_rows : (f g : IntegralSum) → IsCanonical integral_cmp f → IsCanonical integral_cmp g → SameRow f g → f ≡ g

@@ -4,7 +4,7 @@
 -- Source: of our own; budgets are the family's, and the literature has none.
 use Rattle.std.specs.Prelude.{Option, None, Some, Result, Ok, Err}
 use Rattle.sector_lattice.specs.declared.sector.Sector.{Sector}
-use Rattle.family_file.specs.Family.{FamilyData}
+use Rattle.family.specs.FamilyData.{FamilyData}
 use Rattle.sector_job.specs.declared.outcome.Outcome.{Outcome}
 use Rattle.sector_job.specs.declared.outcome.Outcome.TheVariants as outcome
 use Rattle.system_text.specs.declared.value.System.{System}

@@ -14,8 +14,8 @@ use Rattle.std.specs.List.{AllZip}
 use Rattle.ibp_algebra.specs.FormalSum.{FormalSum}
 use Rattle.sector_lattice.specs.Sectors.{integral_cmp}
 use Rattle.sparse_rows.specs.Rows.{IntegralSum}
-use Rattle.family_file.specs.Family.{FamilyData}
-use Rattle.family_file.specs.FamilyView.{family_view}
+use Rattle.family.specs.FamilyData.{FamilyData}
+use Rattle.family.specs.FamilyView.{family_view}
 use Rattle.relation_pick.specs.Picking.{IsPick}
 use Rattle.sector_job.specs.Candidates.{Label as LabelData, labels}
 use Rattle.sector_job.specs.Results.{ResultValue, IsResult}

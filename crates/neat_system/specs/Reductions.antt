@@ -6,7 +6,7 @@
 use Rattle.std.specs.Prelude.{ℕ, ◌+◌, nat_lt, if◌then◌else◌, List, [], ◌∷◌, count_by}
 use Rattle.ibp_algebra.specs.FormalSum.{FormalSum, map_keys}
 use Rattle.sparse_rows.specs.Rows.{IntegralSum, is_zero_integral}
-use Rattle.family_file.specs.Family.{FamilyData}
+use Rattle.family.specs.FamilyData.{FamilyData}
 use Rattle.sector_job.specs.Candidates.{Integral, target_row}
 use Rattle.system_text.specs.declared.value.Reduction.{Reduction}
 

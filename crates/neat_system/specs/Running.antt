@@ -3,7 +3,7 @@
 --     Advances         one more sector is done
 -- Source: sectors worked from the larger to the smaller as in Laporta's algorithm.
 use Rattle.std.specs.Prelude.{◌≡◌, ◌+◌, [], length}
-use Rattle.family_file.specs.declared.family.Family.{Family}
+use Rattle.family.specs.declared.family.Family.{Family}
 use Rattle.relay_core.specs.Relay.{Replays}
 use Rattle.relay_core.specs.State.{Relay}
 use Rattle.sector_job.specs.Results.{ResultValue, opening_of, tails_of_plan}

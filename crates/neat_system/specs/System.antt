@@ -21,8 +21,8 @@ use Rattle.ibp_algebra.specs.FormalSum.{FormalSum}
 use Rattle.ibp_algebra.specs.Spans.{row_at}
 use Rattle.sector_lattice.specs.Sectors.{integral_cmp, sector_cmp, sector_of}
 use Rattle.sparse_rows.specs.Rows.{IntegralSum}
-use Rattle.family_file.specs.Family.{FamilyData}
-use Rattle.family_file.specs.declared.parts.StrippedField.{StrippedField}
+use Rattle.family.specs.FamilyData.{FamilyData}
+use Rattle.family.specs.declared.parts.StrippedField.{StrippedField}
 use Rattle.relation_pick.specs.Picking.{IsPick}
 use Rattle.relay_core.specs.Family.{book, IsReached, MeetsEquation}
 use Rattle.sector_job.specs.Candidates.{Integral, Label, labels, AreSeedsFor}

@@ -1,6 +1,6 @@
 // The system of a relay in which each reached sector is done.
 ghost use Rattle.std.specs.Prelude.{◌≡◌, ◌≢◌, ◌↔◌, ◌<◌, ◌^◌, Ok, Err, IfOk, length};
-ghost use Rattle.family_file.specs.FamilyView.{family_view};
+ghost use Rattle.family.specs.FamilyView.{family_view};
 ghost use Rattle.relay_core.specs.Relay.{AllDone};
 ghost use Rattle.sector_job.specs.declared.outcome.Outcome.TheVariants as outcome;
 ghost use Rattle.system_text.specs.declared.value.System.{System};
@@ -15,7 +15,7 @@ use crate::faults::first_fault;
 use crate::gathering::{Gathered, gather};
 use crate::reductions::reductions_of;
 use crate::relations::relations_at;
-use family_file::Family;
+use family::Family;
 use ibp_base::{List, NoMemory};
 use relation_pick::pick;
 use relay_core::RelayState;

@@ -1,10 +1,10 @@
 // The declared targets, as rows and as what a relay opens with.
 ghost use Rattle.std.specs.Prelude.{◌≡◌, IfOk, map};
-ghost use Rattle.family_file.specs.FamilyView.{family_view};
+ghost use Rattle.family.specs.FamilyView.{family_view};
 ghost use Rattle.sector_job.specs.Outcomes.{opening_targets};
 ghost use Rattle.neat_system.specs.Reductions.{declared_row};
 
-use family_file::Family;
+use family::Family;
 use ibp_base::NoMemory;
 use ibp_field::Residue;
 use sector_lattice::Integral;

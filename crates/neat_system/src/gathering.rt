@@ -1,10 +1,10 @@
 // The works of all pieces of a relay, gathered into the lists that a system is made from.
 ghost use Rattle.std.specs.Prelude.{◌≡◌, ◌++◌, IfOk, OnOk, All};
-ghost use Rattle.family_file.specs.FamilyView.{family_view};
+ghost use Rattle.family.specs.FamilyView.{family_view};
 ghost use Rattle.neat_system.specs.Gathering.{IsPieceOf, IsWorkedPiece, Gains, Gathers};
 
 use crate::labels::{Label, add_labels};
-use family_file::Family;
+use family::Family;
 use ibp_base::NoMemory;
 use relay_core::Piece;
 use sector_job::{Outcome, SectorResult, seeds_for};

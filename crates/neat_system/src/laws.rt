@@ -1,7 +1,7 @@
 //! The laws of systems: a family has one system or one fault at most.
 ghost use Rattle.std.specs.Prelude.{◌≡◌, ℕ};
-ghost use Rattle.family_file.specs.Accepted.{DataWithin};
-ghost use Rattle.family_file.specs.Family.{FamilyData};
+ghost use Rattle.family.specs.Within.{DataWithin};
+ghost use Rattle.family.specs.FamilyData.{FamilyData};
 ghost use Rattle.sector_job.specs.declared.outcome.Outcome.{Outcome};
 ghost use Rattle.system_text.specs.declared.value.System.{System};
 ghost use Rattle.neat_system.specs.System.{IsSystem, IsFault};

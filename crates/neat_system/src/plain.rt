@@ -1,7 +1,7 @@
 // The system of a family, worked out on one thread.
 ghost use Rattle.std.specs.Prelude.{◌≡◌, ◌≢◌, ◌↔◌, Ok, Err, IfOk, OnOk};
 ghost use Rattle.std.specs.Bool.{OnTrue, OnFalse};
-ghost use Rattle.family_file.specs.FamilyView.{family_view};
+ghost use Rattle.family.specs.FamilyView.{family_view};
 ghost use Rattle.relay_core.specs.Relay.{AllDone};
 ghost use Rattle.sector_job.specs.declared.outcome.Outcome.TheVariants as outcome;
 ghost use Rattle.system_text.specs.declared.value.System.{System};
@@ -12,7 +12,7 @@ ghost use Rattle.neat_system.specs.Running.{IsUnderWay, Advances};
 use crate::closing::close;
 use crate::declared::opening_targets;
 use crate::fault::SystemFault;
-use family_file::Family;
+use family::Family;
 use ibp_base::NoMemory;
 use relay_core::{FinishFault, RelayState, Taken};
 use sector_job::{Plan, SectorResult, work};

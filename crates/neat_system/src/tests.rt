@@ -1,6 +1,7 @@
 use crate::plain::worked_through;
 use crate::{SystemFault, close, laws, run_plain};
-use family_file::{Family, Need, read_family};
+use family::Family;
+use family_file::{Need, read_family};
 use sector_lattice::Sector;
 use std::alloc::Global;
 use std::test::Fail;

@@ -1,8 +1,8 @@
 -- What holds of each command: it refuses a family in one way, and only one that it doesn't accept, and it accepts each
 -- family that it writes a text of.
 use Rattle.std.proofs.Common.{◌≡◌, ℕ, List}
-use Rattle.family_file.specs.Accepted.{DataWithin}
-use Rattle.family_file.specs.Family.{FamilyData}
+use Rattle.family.specs.Within.{DataWithin}
+use Rattle.family.specs.FamilyData.{FamilyData}
 use Rattle.neatibp.specs.Causes.{IsTextOf, Refuses, Accepts}
 use Rattle.neatibp.specs.declared.words.Command.{Command}
 use Rattle.neatibp.specs.declared.words.Command.TheVariants as command

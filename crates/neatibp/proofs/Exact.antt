@@ -1,8 +1,8 @@
 -- A refusal is the answer exactly where it has its cause.
 use Rattle.std.proofs.Common.{◌≡◌, ℕ, List, inl, inr, Option, Result, Ok, Err, refl, sym, ap, subst}
 use Rattle.family_file.specs.declared.fault.FileFault.{FileFault}
-use Rattle.family_file.specs.Accepted.{DataWithin}
-use Rattle.family_file.specs.Family.{FamilyData}
+use Rattle.family.specs.Within.{DataWithin}
+use Rattle.family.specs.FamilyData.{FamilyData}
 use Rattle.neatibp.specs.Causes.{Refuses, IsRefused, IsAnswered, Tells}
 use Rattle.neatibp.specs.declared.words.Command.{Command}
 use Rattle.neatibp.specs.declared.status.Status.{Status}

@@ -2,7 +2,7 @@
 use Rattle.std.proofs.Common.{◌≡◌, ◌≢◌, ℕ, sym, ap, ◌∙◌}
 use Rattle.module_basis.specs.PlainRun as run
 use Rattle.sector_lattice.specs.declared.sector.Sector.{Sector}
-use Rattle.family_file.specs.Family.{FamilyData}
+use Rattle.family.specs.FamilyData.{FamilyData}
 use Rattle.mono_order.specs.declared.limits.TheConstants.{RUN_DEGREE}
 use Rattle.mono_order.specs.TermOrder.{zero_dominates}
 use Rattle.module_basis.proofs.RunEnds.{RunsTo-unique}

@@ -2,9 +2,9 @@
 use Rattle.std.proofs.Common.{◌≡◌, ℕ, ◌-◌, List, refl, ap, subst, arith}
 use Rattle.ibp_algebra.specs.Field.{IsDivided}
 use Rattle.sector_lattice.specs.Sectors.{sector_of}
-use Rattle.family_file.specs.Conditions.{in_sector}
-use Rattle.family_file.specs.declared.parts.Probe.{Probe}
-use Rattle.family_file.specs.Family.{FamilyData}
+use Rattle.family.specs.Conditions.{in_sector}
+use Rattle.family.specs.declared.parts.Probe.{Probe}
+use Rattle.family.specs.FamilyData.{FamilyData}
 use Rattle.ibp_relation.specs.Conditions.{IsFirstUndivided}
 use Rattle.ibp_relation.proofs.Outcomes.{first_unique}
 use Rattle.neatibp.specs.Identity.{MeetsProbe, IsIdentityText, IsNotDivisible, IsNotTangent}

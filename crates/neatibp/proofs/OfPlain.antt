@@ -1,8 +1,8 @@
 -- `plain` refuses a family in one way, and only where it has no system.
 use Rattle.std.proofs.Common.{◌≡◌, ℕ, ap}
 use Rattle.sector_lattice.specs.declared.sector.Sector.{Sector}
-use Rattle.family_file.specs.Accepted.{DataWithin}
-use Rattle.family_file.specs.Family.{FamilyData}
+use Rattle.family.specs.Within.{DataWithin}
+use Rattle.family.specs.FamilyData.{FamilyData}
 use Rattle.sector_job.specs.declared.outcome.Outcome.TheVariants as outcome
 use Rattle.neat_system.specs.System.{IsFault}
 use Rattle.neat_system.proofs.OneSystem.{one_fault, never_both}

@@ -2,15 +2,15 @@
 use Rattle.std.proofs.Common.{◌≡◌, List, sym, ap, subst, ◌∙◌}
 use Rattle.ibp_algebra.specs.Identity.{IsIdentityRow}
 use Rattle.sparse_rows.specs.Rows.{is_zero_integral}
-use Rattle.family_file.specs.declared.parts.Probe.{Probe}
-use Rattle.poly_text.specs.declared.limits.TheConstants.{DEGREE_LIMIT}
+use Rattle.family.specs.declared.parts.Probe.{Probe}
+use Rattle.sparse_poly.specs.declared.limits.TheConstants.{DEGREE_LIMIT}
 use Rattle.family_file.proofs.FamilyLimits.{accepted_within}
 use Rattle.ibp_relation.proofs.Outcomes.{one_row}
 use Rattle.neatibp.specs.Identity.{row_line}
 use Rattle.neatibp.specs.Causes.{need_of}
 use Rattle.neatibp.specs.OneText.{OneText}
 use Rattle.neatibp.specs.declared.words.Command.TheVariants as command
-use Rattle.family_file.specs.declared.parts.StrippedField.{StrippedField}
+use Rattle.family.specs.declared.parts.StrippedField.{StrippedField}
 use Rattle.sector_module.proofs.OneBasis.{one_basis}
 use Rattle.system_text.specs.declared.value.SectorBlock.{SectorBlock}
 use Rattle.system_text.specs.Systems.{block_text, system_text}

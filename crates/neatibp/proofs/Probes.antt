@@ -5,11 +5,12 @@ use Rattle.std.specs.Prelude.{Vec, IsErrAnd, IsSome}
 use Rattle.std.proofs.lemmas.Option.{same_Some}
 use Rattle.ibp_algebra.specs.Field.{IsDivided, IsTangent}
 use Rattle.sector_lattice.specs.Sectors.{sector_of}
-use Rattle.family_file.specs.Conditions.{in_sector, MeetsTwoConditions}
+use Rattle.family.specs.Conditions.{in_sector, MeetsTwoConditions}
 use Rattle.family_file.specs.declared.need.Need.TheVariants as needs
-use Rattle.family_file.specs.declared.parts.Probe.{Probe}
+use Rattle.family.specs.declared.parts.Probe.{Probe}
 use Rattle.family_file.proofs.FamilyLimits.{accepted_needs}
-use Rattle.family_file.specs.Family.{FamilyData, family_of}
+use Rattle.family.specs.FamilyData.{FamilyData}
+use Rattle.family_file.specs.Family.{family_of}
 use Rattle.ibp_relation.specs.Conditions.{IsFirstUndivided}
 use Rattle.ibp_relation.specs.declared.relation.IdentityFault.{IdentityFault}
 use Rattle.ibp_relation.specs.declared.relation.IdentityFault.TheVariants.{NotDivisible, NotTangent, NoMemory}

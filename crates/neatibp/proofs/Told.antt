@@ -5,8 +5,9 @@ use Rattle.std.specs.Io.KnownBytes.{Keeps}
 use Rattle.std.proofs.lemmas.Option.{same_Some}
 use Rattle.family_file.proofs.Front.{family_of-take}
 use Rattle.family_file.specs.declared.fault.FileFault.{FileFault}
-use Rattle.family_file.specs.Accepted.{DataWithin}
-use Rattle.family_file.specs.Family.{FamilyData, family_of}
+use Rattle.family.specs.Within.{DataWithin}
+use Rattle.family.specs.FamilyData.{FamilyData}
+use Rattle.family_file.specs.Family.{family_of}
 use Rattle.neatibp.specs.declared.words.Command.{Command}
 use Rattle.neatibp.specs.declared.refusal.Refusal.{Refusal}
 use Rattle.neatibp.specs.declared.refusal.Refusal.TheVariants as refusal

@@ -4,8 +4,8 @@
 use Rattle.std.specs.Prelude.{◌≡◌, ℕ, List}
 use Rattle.module_vec.specs.ModuleVector.{ModuleVector}
 use Rattle.module_basis.specs.PlainRun.{Done}
-use Rattle.family_file.specs.Family.{FamilyData}
-use Rattle.family_file.specs.declared.parts.StrippedField.{StrippedField}
+use Rattle.family.specs.FamilyData.{FamilyData}
+use Rattle.family.specs.declared.parts.StrippedField.{StrippedField}
 use Rattle.sector_module.specs.SectorBasis.{IsSectorBasis}
 use Rattle.sector_job.specs.Outcomes.{EndsSo}
 use Rattle.system_text.specs.Systems.{block_text}

@@ -5,7 +5,7 @@ use Rattle.std.specs.Io.KnownBytes.{Keeps, Appends}
 use Rattle.family_file.specs.declared.fault.FileFault.{FileFault}
 use Rattle.family_file.specs.declared.need.Need.{Need}
 use Rattle.family_file.specs.declared.need.Need.TheVariants as needs
-use Rattle.family_file.specs.Family.{FamilyData}
+use Rattle.family.specs.FamilyData.{FamilyData}
 use Rattle.module_basis.specs.PlainRun as run
 use Rattle.sector_job.specs.declared.outcome.Outcome.TheVariants as outcome
 use Rattle.neat_system.specs.System.{IsFault}

@@ -12,9 +12,9 @@ use Rattle.ibp_algebra.specs.Field.{IsDivided, IsTangent}
 use Rattle.ibp_algebra.specs.Identity.{IsIdentityRow}
 use Rattle.sector_lattice.specs.Sectors.{integral_cmp, sector_of}
 use Rattle.sparse_rows.specs.Rows.{IntegralSum, is_zero_integral}
-use Rattle.family_file.specs.Conditions.{in_sector, MeetsTwoConditions}
-use Rattle.family_file.specs.Family.{FamilyData}
-use Rattle.family_file.specs.declared.parts.Probe.{Probe}
+use Rattle.family.specs.Conditions.{in_sector, MeetsTwoConditions}
+use Rattle.family.specs.FamilyData.{FamilyData}
+use Rattle.family.specs.declared.parts.Probe.{Probe}
 use Rattle.ibp_relation.specs.Conditions.{IsFirstUndivided, NoneRises}
 use Rattle.system_text.specs.Texts.{row_text}
 

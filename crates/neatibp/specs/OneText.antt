@@ -1,6 +1,7 @@
 -- A file determines the text that a command writes of it.
 use Rattle.std.specs.Prelude.{◌≡◌, ℕ, List, Ok}
-use Rattle.family_file.specs.Family.{FamilyData, family_of}
+use Rattle.family.specs.FamilyData.{FamilyData}
+use Rattle.family_file.specs.Family.{family_of}
 use Rattle.neatibp.specs.Causes.{need_of, IsTextOf}
 use Rattle.neatibp.specs.declared.words.Command.{Command}
 

@@ -2,7 +2,7 @@
 --     HasSystem family              the family has a system
 --     IsSystemText family text      the text of the family's system
 use Rattle.std.specs.Prelude.{◌≡◌, ℕ, List}
-use Rattle.family_file.specs.Family.{FamilyData}
+use Rattle.family.specs.FamilyData.{FamilyData}
 use Rattle.system_text.specs.declared.value.System.{System}
 use Rattle.system_text.specs.Systems.{system_text}
 use Rattle.neat_system.specs.System.{IsSystem}

@@ -2,14 +2,15 @@
 
 ghost use Rattle.std.specs.Prelude.{◌≡◌, ◌<◌, ◌^◌, IsSome, Ok, IfOk};
 ghost use Rattle.family_file.specs.Family.{family_of};
-ghost use Rattle.family_file.specs.FamilyView.{family_view};
+ghost use Rattle.family.specs.FamilyView.{family_view};
 ghost use Rattle.neatibp.specs.Identity.{row_line};
 ghost use Rattle.neatibp.specs.Causes.{need_of, Answers};
 ghost use Rattle.neatibp.specs.declared.words.Command.TheVariants as command;
 
 use crate::refusal::Refusal;
 use crate::words::Command;
-use family_file::{Family, Need, Probe, read_family};
+use family::{Family, Probe};
+use family_file::{Need, read_family};
 use ibp_base::NoMemory;
 use ibp_relation::identity;
 use neat_system::run_plain;

@@ -2,7 +2,8 @@ ghost use Rattle.std.specs.Prelude.{◌≤◌};
 
 use crate::run::run_calm;
 use crate::status::{Status, status_text};
-use family_file::{Family, FileFault, Need, read_family};
+use family::Family;
+use family_file::{FileFault, Need, read_family};
 use ibp_field::Residue;
 use ibp_outside::{MemorySink, MemorySource};
 use poly_text::{Numbers, parse_poly};

@@ -17,7 +17,7 @@ use Rattle.ibp_algebra.proofs.SumLaws.{SameCoefficients-refl, SameCoefficients-s
 use Rattle.ibp_algebra.proofs.PolynomialLaws.{same_polynomials, SamePolynomial-append}
 use Rattle.sparse_poly.proofs.Loops.{scale-one}
 use Rattle.poly_text.specs.declared.fault.TextFault.{TextFault}
-use Rattle.poly_text.specs.declared.limits.TheConstants.{TERM_LIMIT}
+use Rattle.sparse_poly.specs.declared.limits.TheConstants.{TERM_LIMIT}
 use Rattle.poly_text.specs.Value.{within_terms, both_values, sum_of}
 use Rattle.poly_text.specs.Sum.{sum_of_both, sum_with_multiple, terms_of}
 use Rattle.poly_text.proofs.Values.{same_normal_form, normal_is, normal_of_same, added_multiple}

@@ -16,7 +16,7 @@ mod symbol;
 mod value;
 
 pub use fault::TextFault;
-pub use limits::{DEGREE_LIMIT, DEPTH_LIMIT, NAME_LIMIT, POWER_LIMIT, TERM_LIMIT};
+pub use limits::{DEPTH_LIMIT, NAME_LIMIT, POWER_LIMIT};
 pub use numbers::Numbers;
 pub use parse::{parse_number, parse_poly};
 pub use scan::is_number_name;

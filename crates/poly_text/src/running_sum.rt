@@ -9,12 +9,11 @@ ghost use Rattle.poly_text.specs.Sum.{sum_of_both, sum_with_multiple, terms_of, 
 
 use crate::fault::TextFault;
 use crate::key::Key;
-use crate::limits::TERM_LIMIT;
 use crate::value::added;
 use ibp_base::NoMemory;
 use ibp_field::Residue;
 use mono_order::{DegRevLex, Monomial, MonomialOrder};
-use sparse_poly::Poly;
+use sparse_poly::{Poly, TERM_LIMIT};
 use std::alloc::{AllocError, Global};
 use std::collections::BTreeMap;
 use std::marker::Model;

@@ -175,12 +175,3 @@ fn a_sum_has_few_terms(rt: HostRuntime) -> Result<(), Fail> {
     }
     Ok(())
 }
-
-#[test]
-fn the_limits_are_those_of_the_format(rt: HostRuntime) {
-    assert_eq!(rt; NAME_LIMIT, 32);
-    assert_eq!(rt; POWER_LIMIT, 20);
-    assert_eq!(rt; DEPTH_LIMIT, 64);
-    assert_eq!(rt; DEGREE_LIMIT, 24);
-    assert_eq!(rt; TERM_LIMIT, 20_000);
-}

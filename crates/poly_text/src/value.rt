@@ -8,12 +8,11 @@ ghost use Rattle.mono_order.specs.declared.limits.TheConstants.{MONO_DEGREE};
 ghost use Rattle.poly_text.specs.Value.{constant, within_terms, sum_of, product_of, quotient_of, negative_of, power_of};
 
 use crate::fault::TextFault;
-use crate::limits::{DEGREE_LIMIT, TERM_LIMIT};
 use crate::reader::Operand;
 use ibp_base::NoMemory;
 use ibp_field::Residue;
 use mono_order::Monomial;
-use sparse_poly::Poly;
+use sparse_poly::{DEGREE_LIMIT, Poly, TERM_LIMIT};
 use std::alloc::Global;
 
 /// A number as a polynomial.

@@ -6,7 +6,7 @@ use Rattle.std.proofs.lemmas.List.Sums.{sum_by-cons}
 use Rattle.ibp_algebra.specs.Laurent.{power_at}
 use Rattle.sector_lattice.specs.Sectors.{dots_of, rank_of, is_positive}
 use Rattle.sector_lattice.specs.Seeds.{IsSeed}
-use Rattle.family_file.specs.Shapes.{ArePowers}
+use Rattle.family.specs.Shapes.{ArePowers}
 
 dots_first : (p : ℤ) (powers : List ℤ) → dots_of (p ∷ powers) ≡ (if is_positive p then unsigned_abs p - 1 else 0) + dots_of powers
 dots_first p powers = sum_by-cons (λ power. if is_positive power then unsigned_abs power - 1 else 0) p powers

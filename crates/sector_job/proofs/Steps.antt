@@ -9,9 +9,9 @@ use Rattle.sector_lattice.specs.Orders.{sector_below}
 use Rattle.sector_lattice.specs.Layers.{layers}
 use Rattle.sector_lattice.proofs.SeedLists.{layers_are_seeds, layers_counted}
 use Rattle.sparse_rows.specs.Rows.{IntegralSum}
-use Rattle.family_file.specs.Family.{FamilyData}
-use Rattle.family_file.specs.Shapes.{ArePowers}
-use Rattle.family_file.specs.declared.parts.StrippedField.{StrippedField}
+use Rattle.family.specs.FamilyData.{FamilyData}
+use Rattle.family.specs.Shapes.{ArePowers}
+use Rattle.family.specs.declared.parts.StrippedField.{StrippedField}
 use Rattle.relay_core.proofs.Members.{in_head}
 use Rattle.sector_job.specs.Candidates.{Integral, dots_bound, rank_bound, AreSeedsFor, AreCandidates, AreTails}
 use Rattle.sector_job.specs.Outcomes.{FitsTargets, HasBasis, IsOver, IsWorked}

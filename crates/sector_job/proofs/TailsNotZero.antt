@@ -5,9 +5,9 @@ use Rattle.std.proofs.lemmas.List.{get_or_default}
 use Rattle.ibp_algebra.specs.Spans.{row_at}
 use Rattle.ibp_relation.proofs.RowKeys.{none_struck}
 use Rattle.sparse_rows.specs.Rows.{IntegralSum, coefficient_of, is_zero_integral}
-use Rattle.family_file.specs.Conditions.{is_zero_sector}
-use Rattle.family_file.specs.Family.{FamilyData}
-use Rattle.family_file.specs.declared.parts.StrippedField.{StrippedField}
+use Rattle.family.specs.Conditions.{is_zero_sector}
+use Rattle.family.specs.FamilyData.{FamilyData}
+use Rattle.family.specs.declared.parts.StrippedField.{StrippedField}
 use Rattle.relay_core.proofs.Members.{in_none}
 use Rattle.sector_job.specs.Candidates.{Integral, AreCandidates, AreTails}
 use Rattle.sector_job.specs.CandidateRows.{candidate_at}

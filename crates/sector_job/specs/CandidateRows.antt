@@ -6,10 +6,10 @@ use Rattle.ibp_algebra.specs.Field.{unstripped}
 use Rattle.ibp_algebra.specs.Spans.{row_at}
 use Rattle.ibp_relation.proofs.Outcomes.{one_row}
 use Rattle.sparse_rows.specs.Rows.{IntegralSum, is_zero_integral}
-use Rattle.family_file.specs.Accepted.{DataWithin}
-use Rattle.family_file.specs.Family.{FamilyData}
-use Rattle.poly_text.specs.declared.limits.TheConstants.{DEGREE_LIMIT}
-use Rattle.family_file.specs.declared.parts.StrippedField.{StrippedField}
+use Rattle.family.specs.Within.{DataWithin}
+use Rattle.family.specs.FamilyData.{FamilyData}
+use Rattle.sparse_poly.specs.declared.limits.TheConstants.{DEGREE_LIMIT}
+use Rattle.family.specs.declared.parts.StrippedField.{StrippedField}
 use Rattle.sector_job.specs.Candidates.{Integral, labels, field_numbered, IsCandidate, AreCandidates}
 
 zipped_at : {A : Type 0} (R : A → IntegralSum → Type 0) (xs : List A) (rows : List IntegralSum) → AllZip R xs rows → (k : ℕ) → k < length rows → (x : A) × R x (row_at rows k)

@@ -19,8 +19,8 @@ pub use Rattle.sector_lattice.specs.declared.integral.Integral.{Integral}
 use Rattle.sector_lattice.specs.Sectors.{sector_of, dots_of, rank_of, integral_cmp, Ascends, IsProperSubsector}
 use Rattle.sector_lattice.specs.Seeds.{AreSeeds}
 use Rattle.sparse_rows.specs.Rows.{IntegralSum, coefficient_of, is_zero_integral}
-use Rattle.family_file.specs.Family.{FamilyData}
-use Rattle.family_file.specs.declared.parts.StrippedField.{StrippedField}
+use Rattle.family.specs.FamilyData.{FamilyData}
+use Rattle.family.specs.declared.parts.StrippedField.{StrippedField}
 use Rattle.relation_pick.specs.Picking.{WholeSpan}
 
 -- the greatest value at an integral of the list

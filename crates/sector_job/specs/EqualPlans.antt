@@ -12,13 +12,13 @@ use Rattle.sparse_poly.specs.Equality.{one_polynomial, one_polynomial-Decides}
 use Rattle.sector_lattice.specs.declared.sector.Sector.{Sector}
 use Rattle.sector_lattice.specs.Sectors.{integral_cmp}
 use Rattle.sector_lattice.specs.Orders.{integrals_decide}
-use Rattle.family_file.specs.declared.family.Family.{Family}
-use Rattle.family_file.specs.declared.parts.Bounds.{Bounds}
-use Rattle.family_file.specs.declared.parts.Budget.{Budget}
-use Rattle.family_file.specs.declared.parts.Probe.{Probe}
-use Rattle.family_file.specs.Family.{FamilyData}
-use Rattle.family_file.specs.FamilyView.{family_view}
-use Rattle.family_file.proofs.SameFamily.{sectors_decide, bounds_decide, budget_decides, probes_decide, options_decide}
+use Rattle.family.specs.declared.family.Family.{Family}
+use Rattle.family.specs.declared.parts.Bounds.{Bounds}
+use Rattle.family.specs.declared.parts.Budget.{Budget}
+use Rattle.family.specs.declared.parts.Probe.{Probe}
+use Rattle.family.specs.FamilyData.{FamilyData}
+use Rattle.family.specs.FamilyView.{family_view}
+use Rattle.family.proofs.SameFamily.{sectors_decide, bounds_decide, budget_decides, probes_decide, options_decide}
 use Rattle.sector_job.specs.Candidates.{Integral}
 use Rattle.sector_job.specs.Outcomes.{AreTailsOf, opening_targets}
 use Rattle.sector_job.specs.Results.{opening_of, tails_of_plan}

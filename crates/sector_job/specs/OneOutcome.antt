@@ -8,9 +8,9 @@ use Rattle.module_basis.proofs.RunEnds.{RunsTo-unique}
 use Rattle.sector_lattice.specs.Sectors.{integral_cmp, Ascends}
 use Rattle.sector_lattice.specs.Orders.{integral_cmp_total}
 use Rattle.sparse_rows.specs.Rows.{IntegralSum}
-use Rattle.family_file.specs.Accepted.{DataWithin}
-use Rattle.family_file.specs.Family.{FamilyData}
-use Rattle.family_file.specs.declared.parts.StrippedField.{StrippedField}
+use Rattle.family.specs.Within.{DataWithin}
+use Rattle.family.specs.FamilyData.{FamilyData}
+use Rattle.family.specs.declared.parts.StrippedField.{StrippedField}
 use Rattle.relay_core.proofs.Members.{same_members}
 use Rattle.sector_module.specs.Factors.{sector_generators}
 use Rattle.sector_module.proofs.OneBasis.{one_basis as one_list_of_fields}

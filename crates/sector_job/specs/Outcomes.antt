@@ -11,9 +11,9 @@ use Rattle.std.specs.Prelude.{◌≡◌, ◌≢◌, ℕ, ◌*◌, ◌<◌, ◌�
 use Rattle.std.specs.List.{All}
 use Rattle.sector_lattice.specs.Sectors.{Ascends}
 use Rattle.sparse_rows.specs.Rows.{IntegralSum, is_zero_integral}
-use Rattle.family_file.specs.Conditions.{is_zero_sector}
-use Rattle.family_file.specs.Family.{FamilyData}
-use Rattle.family_file.specs.declared.parts.StrippedField.{StrippedField}
+use Rattle.family.specs.Conditions.{is_zero_sector}
+use Rattle.family.specs.FamilyData.{FamilyData}
+use Rattle.family.specs.declared.parts.StrippedField.{StrippedField}
 use Rattle.module_vec.specs.ModuleVector.{ModuleVector}
 use Rattle.module_basis.specs.PlainRun.{RunEnd, Done, PairsSpent as RunSpent, DegreeOver as RunOver}
 use Rattle.sector_module.specs.Factors.{SectorRunEnds}

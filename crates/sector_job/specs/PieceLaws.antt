@@ -5,10 +5,10 @@ use Rattle.std.specs.Prelude.{Contains}
 use Rattle.std.specs.List.Sorted.{IsStrictlySortedBy}
 use Rattle.std.proofs.lemmas.List.Elements.{All-contains}
 use Rattle.sector_lattice.specs.Sectors.{sector_of, Ascends, IsProperSubsector}
-use Rattle.family_file.specs.Family.{FamilyData}
-use Rattle.family_file.specs.FamilyView.{family_view}
-use Rattle.family_file.specs.declared.family.Family.{Family}
-use Rattle.family_file.specs.Shapes.{ArePowers}
+use Rattle.family.specs.FamilyData.{FamilyData}
+use Rattle.family.specs.FamilyView.{family_view}
+use Rattle.family.specs.declared.family.Family.{Family}
+use Rattle.family.specs.Shapes.{ArePowers}
 use Rattle.relay_core.specs.Family.{AreLawful}
 use Rattle.relay_core.proofs.Members.{from_filter, in_none}
 use Rattle.sector_job.specs.Candidates.{Integral}

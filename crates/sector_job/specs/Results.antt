@@ -4,8 +4,8 @@
 --     IsResult              the targets fit the sector, and the outcome is that of the sector for them
 use Rattle.std.specs.Prelude.{List}
 use Rattle.sector_lattice.specs.declared.sector.Sector.{Sector}
-use Rattle.family_file.specs.declared.family.Family.{Family}
-use Rattle.family_file.specs.FamilyView.{family_view}
+use Rattle.family.specs.declared.family.Family.{Family}
+use Rattle.family.specs.FamilyView.{family_view}
 use Rattle.relay_core.specs.Family.{Opening, TailRelation}
 use Rattle.sector_job.specs.declared.outcome.Outcome.{Outcome}
 use Rattle.sector_job.specs.Candidates.{Integral}

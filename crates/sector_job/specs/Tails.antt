@@ -12,8 +12,8 @@ use Rattle.ibp_relation.proofs.RowKeys.{has_powers}
 use Rattle.sector_lattice.specs.Sectors.{sector_of, integral_cmp, IsProperSubsector}
 use Rattle.sector_lattice.specs.Orders.{integrals_decide}
 use Rattle.sparse_rows.specs.Rows.{IntegralSum, coefficient_of}
-use Rattle.family_file.specs.Family.{FamilyData}
-use Rattle.family_file.specs.declared.parts.StrippedField.{StrippedField}
+use Rattle.family.specs.FamilyData.{FamilyData}
+use Rattle.family.specs.declared.parts.StrippedField.{StrippedField}
 use Rattle.sector_job.specs.Candidates.{Integral, AreCandidates, target_row, OccursInForm, AreTails}
 use Rattle.sector_job.specs.Outcomes.{FitsTargets}
 use Rattle.sector_job.specs.CandidateRows.{candidate_at}

@@ -2,10 +2,10 @@
 ghost use Rattle.std.specs.Prelude.{◌≡◌, ◌↔◌, ◌≤◌, ◌<◌, ◌^◌, ◌*◌, IsTrue};
 ghost use Rattle.sector_lattice.specs.Sectors.{dots_of, rank_of};
 ghost use Rattle.sector_lattice.specs.Seeds.{seed_number};
-ghost use Rattle.family_file.specs.FamilyView.{family_view};
+ghost use Rattle.family.specs.FamilyView.{family_view};
 ghost use Rattle.sector_job.specs.Candidates.{greatest, dots_bound, rank_bound};
 
-use family_file::Family;
+use family::Family;
 use sector_lattice::{Integral, SEED_LIMIT, Sector, seed_count};
 
 /// The most dots of the seeds.

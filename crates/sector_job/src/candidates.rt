@@ -2,13 +2,13 @@
 ghost use Rattle.std.specs.Prelude.{◌≡◌, length, IfOk};
 ghost use Rattle.std.specs.List.{All, AllZip};
 ghost use Rattle.mono_order.specs.declared.limits.TheConstants.{RUN_DEGREE};
-ghost use Rattle.family_file.specs.Shapes.{IsField, ArePowers};
-ghost use Rattle.family_file.specs.Conditions.{IsInSectorModule};
-ghost use Rattle.family_file.specs.FamilyView.{family_view};
+ghost use Rattle.family.specs.Shapes.{IsField, ArePowers};
+ghost use Rattle.family.specs.Conditions.{IsInSectorModule};
+ghost use Rattle.family.specs.FamilyView.{family_view};
 ghost use Rattle.sector_lattice.specs.Sectors.{sector_of};
 ghost use Rattle.sector_job.specs.Candidates.{labels_at, field_numbered, IsCandidate, AreCandidates};
 
-use family_file::{Family, StrippedField};
+use family::{Family, StrippedField};
 use ibp_base::NoMemory;
 use ibp_relation::candidate;
 use sector_lattice::{Integral, Sector};

@@ -1,9 +1,9 @@
 //! Laws of outcomes, each the contract of a function that does nothing, and what equal plans have in common.
 ghost use Rattle.std.specs.Prelude.{◌≡◌, ◌↔◌, ℕ, false, IsTrue, List, Contains};
 ghost use Rattle.sparse_rows.specs.Rows.{is_zero_integral};
-ghost use Rattle.family_file.specs.Accepted.{DataWithin};
-ghost use Rattle.family_file.specs.Family.{FamilyData};
-ghost use Rattle.family_file.specs.FamilyView.{family_view};
+ghost use Rattle.family.specs.Within.{DataWithin};
+ghost use Rattle.family.specs.FamilyData.{FamilyData};
+ghost use Rattle.family.specs.FamilyView.{family_view};
 ghost use Rattle.sector_job.specs.Candidates.{Integral};
 ghost use Rattle.sector_job.specs.Outcomes.{FitsTargets, IsOutcome, tails_in};
 

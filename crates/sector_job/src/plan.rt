@@ -1,7 +1,7 @@
 // What the jobs of one system share.
 ghost use Rattle.std.specs.Prelude.{◌≡◌, IfOk};
 
-use family_file::Family;
+use family::Family;
 use ibp_base::NoMemory;
 use std::alloc::Global;
 use std::marker::Model;
@@ -14,8 +14,8 @@ pub struct Plan {
 }
 
 impl Model for Plan {
-    ghost use Rattle.family_file.specs.declared.family.Family.{Family};
-    ghost use Rattle.family_file.specs.contracts.family.Family.{the_row as family_row};
+    ghost use Rattle.family.specs.declared.family.Family.{Family};
+    ghost use Rattle.family.specs.contracts.family.Family.{the_row as family_row};
 
     ghost Value = { Family };
 
@@ -52,7 +52,7 @@ impl Plan {
 }
 
 impl PartialEq for Plan {
-    ghost use Rattle.family_file.specs.contracts.family.FamilyPartialEq.TheImpl.Laws.{laws-law};
+    ghost use Rattle.family.specs.contracts.family.FamilyPartialEq.TheImpl.Laws.{laws-law};
 
     ghost eq = { ⟦<Family as PartialEq>⟧.eq };
 
@@ -64,7 +64,7 @@ impl PartialEq for Plan {
 }
 
 impl Eq for Plan {
-    ghost use Rattle.family_file.specs.contracts.family.FamilyEq.TheImpl.Laws.{laws-law};
+    ghost use Rattle.family.specs.contracts.family.FamilyEq.TheImpl.Laws.{laws-law};
 
     ghost laws = { laws-law };
 }

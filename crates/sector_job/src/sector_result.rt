@@ -1,6 +1,6 @@
 // What came of a sector, as a piece of work of a relay.
 ghost use Rattle.std.specs.Prelude.{◌≡◌};
-ghost use Rattle.family_file.specs.FamilyView.{family_view};
+ghost use Rattle.family.specs.FamilyView.{family_view};
 ghost use Rattle.sector_job.specs.Outcomes.{FitsTargets, IsOutcome};
 ghost use Rattle.sector_job.specs.Results.{result_value};
 
@@ -23,7 +23,7 @@ pub struct SectorResult {
 
 impl Model for SectorResult {
     ghost use Rattle.std.specs.Coded.{codes};
-    ghost use Rattle.family_file.specs.contracts.family.Family.{the_row as family_row};
+    ghost use Rattle.family.specs.contracts.family.Family.{the_row as family_row};
     ghost use Rattle.sector_job.specs.Results.{ResultValue, result_value, IsResult};
 
     ghost Value = { ResultValue };

@@ -1,10 +1,10 @@
 // The seeds of a sector for its targets.
 ghost use Rattle.std.specs.Prelude.{◌<◌, ◌^◌, IfOk};
-ghost use Rattle.family_file.specs.FamilyView.{family_view};
+ghost use Rattle.family.specs.FamilyView.{family_view};
 ghost use Rattle.sector_job.specs.Candidates.{AreSeedsFor};
 
 use crate::bounds::{most_dots, most_rank};
-use family_file::Family;
+use family::Family;
 use ibp_base::{List, NoMemory};
 use sector_lattice::{Integral, Sector, seeds};
 use std::alloc::Global;

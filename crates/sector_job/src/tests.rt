@@ -2,7 +2,8 @@ ghost use Rattle.std.specs.Prelude.{◌≡◌};
 
 use crate::candidates::candidates_at;
 use crate::{Outcome, Plan, SectorResult, work};
-use family_file::{Family, Need, read_family};
+use family::Family;
+use family_file::{Need, read_family};
 use ibp_field::Residue;
 use relay_core::{Job, Piece, RelayState, Taken};
 use sector_lattice::{Integral, Sector};

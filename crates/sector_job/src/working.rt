@@ -2,9 +2,9 @@
 ghost use Rattle.std.specs.Prelude.{◌≡◌, ℕ, false, IfOk, length};
 ghost use Rattle.std.specs.List.{All};
 ghost use Rattle.mono_order.specs.declared.limits.TheConstants.{RUN_DEGREE};
-ghost use Rattle.family_file.specs.Conditions.{IsInSectorModule, is_zero_sector};
-ghost use Rattle.family_file.specs.FamilyView.{family_view};
-ghost use Rattle.family_file.specs.Shapes.{IsField};
+ghost use Rattle.family.specs.Conditions.{IsInSectorModule, is_zero_sector};
+ghost use Rattle.family.specs.FamilyView.{family_view};
+ghost use Rattle.family.specs.Shapes.{IsField};
 ghost use Rattle.sector_job.specs.Outcomes.{FitsTargets, HasBasis, IsOutcome};
 
 use crate::bounds::{are_too_many, most_dots, most_rank};
@@ -13,7 +13,7 @@ use crate::outcome::Outcome;
 use crate::plan::Plan;
 use crate::sector_result::SectorResult;
 use crate::tails::tails_of;
-use family_file::Family;
+use family::Family;
 use ibp_base::{List, NoMemory};
 use module_basis::BasisFault;
 use relay_core::Job;

@@ -9,7 +9,7 @@ use Rattle.std.proofs.lemmas.Bool.Decides.{not_from_Decides}
 use Rattle.ibp_algebra.specs.FormalSum.{weighted_sum, AllKeys}
 use Rattle.ibp_algebra.proofs.Weights.{weighted_sum-append}
 use Rattle.ibp_algebra.proofs.Combinations.{AllKeys-weaker}
-use Rattle.family_file.specs.declared.parts.StrippedField.{StrippedField}
+use Rattle.family.specs.declared.parts.StrippedField.{StrippedField}
 use Rattle.ibp_algebra.proofs.SumLaws.{SameCoefficients-sym, SameCoefficients-trans, SameCoefficients-from_sums}
 use Rattle.ibp_algebra.specs.Polynomial.{Polynomial}
 use Rattle.mono_order.specs.Term.{Term, same_term}

@@ -2,7 +2,7 @@
 use Rattle.std.proofs.Common.{ℕ, ◌≤◌, List}
 use Rattle.std.proofs.lemmas.List.Elements.{All-weaker}
 use Rattle.ibp_algebra.specs.Polynomial.{Polynomial}
-use Rattle.family_file.specs.Shapes.{IsPolynomial, IsField}
+use Rattle.family.specs.Shapes.{IsPolynomial, IsField}
 use Rattle.sector_module.proofs.FactorLaws.{degrees_more}
 
 IsPolynomial-more : (n less more : ℕ) → less ≤ more → (p : Polynomial) → IsPolynomial n less p → IsPolynomial n more p

@@ -17,9 +17,9 @@ use Rattle.module_vec.specs.ModuleVector.{ModuleVector, SameVector, component_of
 use Rattle.module_vec.proofs.Components.{component_keys}
 use Rattle.module_vec.proofs.NormalForms.{is_normal_form}
 use Rattle.module_basis.specs.GroebnerBasis.{IsReducedBasis}
-use Rattle.family_file.specs.declared.parts.StrippedField.{StrippedField}
-use Rattle.family_file.specs.Shapes.{HasVariables, IsPolynomial, IsField}
-use Rattle.family_file.specs.Conditions.{in_sector, IsInSectorModule}
+use Rattle.family.specs.declared.parts.StrippedField.{StrippedField}
+use Rattle.family.specs.Shapes.{HasVariables, IsPolynomial, IsField}
+use Rattle.family.specs.Conditions.{in_sector, IsInSectorModule}
 use Rattle.sector_module.specs.Factors.{sector_factors}
 use Rattle.sector_module.specs.FieldsOf.{IsComponentOf, IsFieldOf}
 use Rattle.sector_module.specs.SectorBasis.{vector_of, field_vector, IsCanonicalField, IsSectorMember, IsSectorBasis}

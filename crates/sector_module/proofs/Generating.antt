@@ -17,7 +17,7 @@ use Rattle.mono_order.proofs.Terms.{terms_decide}
 use Rattle.module_vec.specs.ModuleVector.{ModuleVector, SameVector}
 use Rattle.module_vec.proofs.Multiples.{AllKeys-map_keys}
 use Rattle.module_vec.proofs.NormalForms.{is_normal_form, SameVector-normal}
-use Rattle.family_file.specs.Conditions.{in_sector}
+use Rattle.family.specs.Conditions.{in_sector}
 use Rattle.sector_module.specs.Factors.{sector_factor, factors_from, sector_factors, at_component, unit_vector, factor_generator, factor_generators, sector_generators}
 use Rattle.sector_module.proofs.FactorLaws.{AllKeys-same}
 use Rattle.sector_module.proofs.Fields.{length-factors}

@@ -18,8 +18,8 @@ use Rattle.mono_order.specs.BlockOrders.{over_position_laws}
 use Rattle.mono_order.proofs.Terms.{terms_decide}
 use Rattle.module_vec.specs.ModuleVector.{SameVector}
 use Rattle.module_vec.proofs.NormalForms.{SameVector-normal}
-use Rattle.family_file.specs.declared.parts.StrippedField.{StrippedField}
-use Rattle.family_file.specs.Shapes.{HasVariables}
+use Rattle.family.specs.declared.parts.StrippedField.{StrippedField}
+use Rattle.family.specs.Shapes.{HasVariables}
 use Rattle.sector_module.specs.Factors.{at_component, sector_factors}
 use Rattle.sector_module.specs.SectorBasis.{vector_of, field_vector, IsCanonicalField, IsSectorBasis}
 use Rattle.sector_module.proofs.SectorBasis.{syzygy_basis_unique}

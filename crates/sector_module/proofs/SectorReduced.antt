@@ -26,8 +26,8 @@ use Rattle.module_vec.proofs.Components.{component_keys}
 use Rattle.module_vec.proofs.Multiples.{AllKeys-coefficient, IsTerm-lead}
 use Rattle.module_vec.proofs.NormalForms.{SameVector-normal}
 use Rattle.module_basis.specs.GroebnerBasis.{IsReducedBasis}
-use Rattle.family_file.specs.Shapes.{HasVariables}
-use Rattle.family_file.specs.Conditions.{in_sector}
+use Rattle.family.specs.Shapes.{HasVariables}
+use Rattle.family.specs.Conditions.{in_sector}
 use Rattle.sector_module.specs.Factors.{sector_factors}
 use Rattle.sector_module.specs.SectorBasis.{vector_of, field_vector, IsSectorMember}
 use Rattle.sector_module.proofs.Syzygies.{IsPolynomialIn, IsInRange, IsSyzygy}

@@ -19,7 +19,7 @@ use Rattle.module_vec.proofs.NormalForms.{SameVector-normal}
 use Rattle.module_vec.proofs.Submodules.{IsMember-same, IsMember-generator, IsMember-least, IsSubmodule-IsMember}
 use Rattle.module_basis.specs.GroebnerBasis.{IsGroebnerBasis, IsReducedBasis, IsReducedLowBasis, IsLowMember}
 use Rattle.module_basis.proofs.OrderChange.{IsReducedBasis-members}
-use Rattle.family_file.specs.Shapes.{HasVariables}
+use Rattle.family.specs.Shapes.{HasVariables}
 use Rattle.sector_module.specs.Factors.{at_component, unit_vector, factor_generators, sector_factors, sector_generators}
 use Rattle.sector_module.proofs.Syzygies.{IsPolynomialIn, IsSyzygy}
 use Rattle.sector_module.proofs.Parts.{IsInFirst}

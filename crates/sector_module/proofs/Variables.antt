@@ -8,7 +8,7 @@ use Rattle.ibp_algebra.specs.Exponents.{add_exponents}
 use Rattle.ibp_algebra.specs.Polynomial.{Polynomial, multiply, derivative}
 use Rattle.ibp_algebra.specs.Field.{unit_exponents, variable}
 use Rattle.ibp_algebra.proofs.ZeroDivisors.{AllKeys-append, AllKeys-scale}
-use Rattle.family_file.specs.Shapes.{HasVariables}
+use Rattle.family.specs.Shapes.{HasVariables}
 use Rattle.sector_module.specs.Factors.{factors_from}
 use Rattle.sector_module.proofs.Fields.{length-unit, length-padded_sum-shorter}
 use Rattle.sector_module.proofs.Splitting.{NoneFrom, NoneFrom-from_places, places-from_NoneFrom}

@@ -15,7 +15,7 @@ use Rattle.mono_order.specs.declared.limits.TheConstants.{VARIABLES, RUN_DEGREE}
 use Rattle.mono_order.specs.TermOrder.{zero_dominates}
 use Rattle.module_vec.specs.ModuleVector.{ModuleVector}
 use Rattle.module_basis.specs.PlainRun.{RunEnd, RunsTo}
-use Rattle.family_file.specs.Conditions.{in_sector}
+use Rattle.family.specs.Conditions.{in_sector}
 
 -- places are counted from 0
 abbrev pub sector_factor : Polynomial → (ℕ → Bool) → ℕ → Polynomial

@@ -8,7 +8,7 @@ use Rattle.ibp_algebra.specs.Exponents.{deg_rev_lex}
 use Rattle.ibp_algebra.specs.Polynomial.{Polynomial, SamePolynomial}
 use Rattle.mono_order.specs.declared.limits.TheConstants.{RUN_DEGREE}
 use Rattle.module_vec.specs.ModuleVector.{ModuleVector, component_of}
-use Rattle.family_file.specs.declared.parts.StrippedField.{StrippedField}
+use Rattle.family.specs.declared.parts.StrippedField.{StrippedField}
 
 pub record IsComponentOf (i : ℕ) (v : ModuleVector) (f : Polynomial) : Type 0 where
   pub same : SamePolynomial f (component_of i v)

@@ -3,7 +3,7 @@
 --     GeneratorsValue     a sector and its stripped fields
 use Rattle.std.specs.Prelude.{List}
 use Rattle.sector_lattice.specs.declared.sector.Sector.{Sector}
-use Rattle.family_file.specs.declared.parts.StrippedField.{StrippedField}
+use Rattle.family.specs.declared.parts.StrippedField.{StrippedField}
 
 pub record GeneratorsValue : Type 0 where
   pub sector : Sector

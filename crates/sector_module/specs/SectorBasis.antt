@@ -18,9 +18,9 @@ use Rattle.mono_order.specs.declared.limits.TheConstants.{VARIABLES}
 use Rattle.mono_order.specs.TermOrder.{over_position}
 use Rattle.module_vec.specs.ModuleVector.{ModuleVector, SameVector}
 use Rattle.module_basis.specs.GroebnerBasis.{IsReducedBasis}
-use Rattle.family_file.specs.declared.parts.StrippedField.{StrippedField}
-use Rattle.family_file.specs.Shapes.{HasVariables}
-use Rattle.family_file.specs.Conditions.{IsInSectorModule}
+use Rattle.family.specs.declared.parts.StrippedField.{StrippedField}
+use Rattle.family.specs.Shapes.{HasVariables}
+use Rattle.family.specs.Conditions.{IsInSectorModule}
 use Rattle.sector_module.specs.Factors.{at_component}
 
 abbrev pub vector_of : ℕ → List Polynomial → ModuleVector

@@ -5,14 +5,14 @@ ghost use Rattle.std.specs.List.{All};
 ghost use Rattle.mono_order.specs.declared.limits.TheConstants.{RUN_DEGREE};
 ghost use Rattle.module_vec.specs.ModuleVector.{ModuleVector};
 ghost use Rattle.module_basis.specs.PlainRun.{Done, PairsSpent, DegreeOver};
-ghost use Rattle.family_file.specs.Shapes.{IsField};
-ghost use Rattle.family_file.specs.Conditions.{IsInSectorModule};
+ghost use Rattle.family.specs.Shapes.{IsField};
+ghost use Rattle.family.specs.Conditions.{IsInSectorModule};
 ghost use Rattle.sector_module.specs.Factors.{SectorRunEnds};
 ghost use Rattle.sector_module.specs.SectorBasis.{IsSectorBasis};
 
 use crate::generators::Generators;
 use crate::vectors::{fields_of, generators};
-use family_file::Family;
+use family::Family;
 use module_basis::{BasisFault, plain_run, reduced_low};
 use sector_lattice::Sector;
 use std::alloc::Global;

@@ -4,11 +4,11 @@ ghost use Rattle.std.specs.Prelude.{◌≡◌, ◌+◌, ◌-◌, ◌<◌, ◌≤
 ghost use Rattle.mono_order.specs.declared.limits.TheConstants.{VARIABLES};
 ghost use Rattle.ibp_algebra.specs.FormalSum.{AllKeys};
 ghost use Rattle.ibp_algebra.specs.Polynomial.{SamePolynomial};
-ghost use Rattle.poly_text.specs.declared.limits.TheConstants.{DEGREE_LIMIT};
-ghost use Rattle.family_file.specs.Conditions.{in_sector};
+ghost use Rattle.sparse_poly.specs.declared.limits.TheConstants.{DEGREE_LIMIT};
+ghost use Rattle.family.specs.Conditions.{in_sector};
 ghost use Rattle.sector_module.specs.Factors.{sector_factor};
 
-use family_file::Family;
+use family::Family;
 use ibp_base::NoMemory;
 use ibp_field::Residue;
 use mono_order::Monomial;

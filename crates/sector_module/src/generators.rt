@@ -2,7 +2,7 @@
 
 ghost use Rattle.std.specs.Prelude.{◌≡◌, IfOk};
 
-use family_file::StrippedField;
+use family::StrippedField;
 use ibp_base::{List, NoMemory};
 use sector_lattice::Sector;
 use sparse_poly::copy_polynomials;

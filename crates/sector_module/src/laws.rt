@@ -4,8 +4,8 @@ ghost use Rattle.std.specs.Prelude.{◌≡◌, ℕ, ◌≤◌, List};
 ghost use Rattle.ibp_algebra.specs.Polynomial.{Polynomial};
 ghost use Rattle.mono_order.specs.declared.limits.TheConstants.{VARIABLES};
 ghost use Rattle.module_basis.specs.PlainRun.{RunEnd};
-ghost use Rattle.family_file.specs.declared.parts.StrippedField.{StrippedField};
-ghost use Rattle.family_file.specs.Shapes.{IsPolynomial};
+ghost use Rattle.family.specs.declared.parts.StrippedField.{StrippedField};
+ghost use Rattle.family.specs.Shapes.{IsPolynomial};
 ghost use Rattle.sector_module.specs.Factors.{SectorRunEnds};
 ghost use Rattle.sector_module.specs.SectorBasis.{IsSectorBasis};
 

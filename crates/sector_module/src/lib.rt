@@ -6,8 +6,6 @@ mod factors;
 mod generators;
 pub mod laws;
 mod membership;
-#[cfg(test)]
-mod tests;
 mod vectors;
 
 pub use basis::sector_basis;

@@ -2,11 +2,11 @@
 
 ghost use Rattle.std.specs.Prelude.{◌^◌, ◌<◌, ◌↔◌, IsTrue, IfOk};
 ghost use Rattle.mono_order.specs.declared.limits.TheConstants.{RUN_DEGREE};
-ghost use Rattle.family_file.specs.Shapes.{IsField};
-ghost use Rattle.family_file.specs.Conditions.{IsInSectorModule};
+ghost use Rattle.family.specs.Shapes.{IsField};
+ghost use Rattle.family.specs.Conditions.{IsInSectorModule};
 
 use crate::factors::factor;
-use family_file::{Family, StrippedField};
+use family::{Family, StrippedField};
 use ibp_base::NoMemory;
 use sector_lattice::Sector;
 use sparse_poly::Poly;

@@ -9,7 +9,7 @@ ghost use Rattle.sector_module.specs.Factors.{factor_generator, sector_generator
 ghost use Rattle.sector_module.specs.FieldsOf.{IsComponentOf, IsFieldOf};
 
 use crate::factors::factor;
-use family_file::{Family, StrippedField};
+use family::{Family, StrippedField};
 use ibp_base::{List, NoMemory};
 use ibp_field::Residue;
 use module_vec::{Vector, VectorFault};

@@ -11,7 +11,7 @@
 -- Source: formats of our own.
 use Rattle.std.specs.Prelude.{ℕ, List, [], ◌∷◌, ◌++◌, length, codes, decimal}
 use Rattle.std.specs.List.{flat_map, enumerate_from}
-use Rattle.family_file.specs.declared.parts.StrippedField.{StrippedField}
+use Rattle.family.specs.declared.parts.StrippedField.{StrippedField}
 use Rattle.system_text.specs.declared.value.SectorBlock.{SectorBlock}
 use Rattle.system_text.specs.declared.value.Written.{Written}
 use Rattle.system_text.specs.declared.value.Reduction.{Reduction}

@@ -6,7 +6,7 @@ ghost use Rattle.system_text.specs.Systems.{count_line, numbered, field_text, bl
 use crate::numbers::{put_bytes, put_count, put_whole};
 use crate::polynomials::{put_poly, put_polys};
 use crate::value::SectorBlock;
-use family_file::StrippedField;
+use family::StrippedField;
 use ibp_base::{List, NoMemory};
 use std::alloc::Global;
 

@@ -7,7 +7,7 @@ use crate::numbers::put_bytes;
 use crate::reductions::put_reductions;
 use crate::relations::put_relations;
 use crate::value::System;
-use family_file::Name;
+use family::Name;
 use ibp_base::{List, NoMemory};
 use std::alloc::Global;
 

@@ -1,7 +1,7 @@
 use crate::{
     Reduction, SectorBlock, System, Written, print_block, print_poly, print_row, print_system,
 };
-use family_file::{Name, StrippedField};
+use family::{Name, StrippedField};
 use ibp_base::List;
 use ibp_field::Residue;
 use mono_order::Monomial;

@@ -1,6 +1,6 @@
 // What a system consists of.
 
-use family_file::{Name, StrippedField};
+use family::{Name, StrippedField};
 use ibp_base::List;
 use ibp_field::Residue;
 use sector_lattice::{Integral, Sector};

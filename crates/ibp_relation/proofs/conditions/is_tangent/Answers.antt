@@ -3,7 +3,7 @@ use Rattle.ibp_algebra.specs.FormalSum.{IsCanonical}
 use Rattle.ibp_algebra.specs.Exponents.{deg_rev_lex}
 use Rattle.std.proofs.lemmas.Bool.Decides.{Decides-at}
 use Rattle.sparse_poly.specs.Equality.{one_polynomial-Decides}
-use Rattle.poly_text.specs.declared.limits.TheConstants.{DEGREE_LIMIT}
+use Rattle.sparse_poly.specs.declared.limits.TheConstants.{DEGREE_LIMIT}
 use Rattle.ibp_relation.specs.Shifts.{HasDegree}
 use Rattle.ibp_relation.proofs.Degrees.{HasDegree-derivative, degree_within}
 use Rattle.ibp_relation.proofs.Tangents.{along_step, Decides-tangent}

@@ -6,7 +6,7 @@ use Rattle.ibp_algebra.specs.Field.{MeetsConditions, unstripped}
 use Rattle.ibp_algebra.specs.Identity.{in_sector_of, IsIdentityRow}
 use Rattle.mono_order.specs.declared.limits.TheConstants.{MONO_DEGREE, RUN_DEGREE, VARIABLES}
 use Rattle.sparse_rows.specs.Rows.{is_zero_integral}
-use Rattle.poly_text.specs.declared.limits.TheConstants.{DEGREE_LIMIT}
+use Rattle.sparse_poly.specs.declared.limits.TheConstants.{DEGREE_LIMIT}
 use Rattle.ibp_relation.specs.Shifts.{HasDegree}
 use Rattle.ibp_relation.proofs.Degrees.{HasDegree-more}
 use Rattle.ibp_relation.proofs.UnstrippedForms.{length-unstripped, unstripped_degrees, candidate_none_rises}

@@ -5,8 +5,8 @@ use Rattle.ibp_algebra.specs.Field.{MeetsConditions}
 use Rattle.ibp_algebra.specs.Identity.{in_sector_of}
 use Rattle.mono_order.specs.declared.limits.TheConstants.{MONO_DEGREE}
 use Rattle.sector_lattice.specs.Sectors.{sector_of}
-use Rattle.poly_text.specs.declared.limits.TheConstants.{DEGREE_LIMIT}
-use Rattle.family_file.specs.Conditions.{MeetsTwoConditions}
+use Rattle.sparse_poly.specs.declared.limits.TheConstants.{DEGREE_LIMIT}
+use Rattle.family.specs.Conditions.{MeetsTwoConditions}
 use Rattle.ibp_relation.specs.Shifts.{HasDegree}
 use Rattle.ibp_relation.proofs.Degrees.{HasDegree-more, fields_degree}
 use Rattle.ibp_relation.proofs.Outcomes.{none_rises}

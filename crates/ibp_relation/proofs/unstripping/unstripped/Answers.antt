@@ -1,7 +1,7 @@
 use Rattle.std.proofs.Common.{◌+◌, ◌-◌, length, sym, subst, arith}
 use Rattle.ibp_algebra.specs.Identity.{in_sector_of}
 use Rattle.mono_order.specs.declared.limits.TheConstants.{RUN_DEGREE}
-use Rattle.family_file.specs.Shapes.{IsPolynomial}
+use Rattle.family.specs.Shapes.{IsPolynomial}
 use Rattle.ibp_relation.proofs.UnstrippedForms.{unstripped_step, unstripped_whole}
 use Rattle.ibp_relation.proofs.unstripping.unstripped.Goals as goal
 

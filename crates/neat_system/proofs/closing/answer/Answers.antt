@@ -1,6 +1,6 @@
 use Rattle.std.proofs.Common.{◌≡◌, ◌*◌, ◌^◌, ◌≤◌, length, sym, ◌∙◌, ap, subst, arith}
-use Rattle.family_file.specs.Family.{FamilyData}
-use Rattle.family_file.specs.FamilyView.{family_view}
+use Rattle.family.specs.FamilyData.{FamilyData}
+use Rattle.family.specs.FamilyView.{family_view}
 use Rattle.sector_job.specs.Results.{opening_of}
 use Rattle.neat_system.specs.Gathering.{Gathers, Writes}
 use Rattle.neat_system.specs.System.{all_candidates}

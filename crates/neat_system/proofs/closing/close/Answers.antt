@@ -1,4 +1,4 @@
-use Rattle.family_file.specs.FamilyView.{family_view}
+use Rattle.family.specs.FamilyView.{family_view}
 use Rattle.neat_system.proofs.Answering.{system_if, complete_if, pairs_if, degree_if, candidates_if}
 use Rattle.neat_system.proofs.closing.close.Goals as goal
 

@@ -3,7 +3,7 @@ use Rattle.std.specs.Prelude.{All}
 use Rattle.std.proofs.lemmas.List.{length-map}
 use Rattle.sector_lattice.specs.Sectors.{integral_cmp}
 use Rattle.sparse_rows.specs.Rows.{IntegralSum}
-use Rattle.family_file.specs.FamilyView.{family_view}
+use Rattle.family.specs.FamilyView.{family_view}
 use Rattle.neat_system.specs.Reductions.{declared_row}
 use Rattle.neat_system.proofs.PickedPlaces.{places_within, few_places, as_many_forms, as_many_weights}
 use Rattle.neat_system.proofs.closing.system_of.Goals as goal

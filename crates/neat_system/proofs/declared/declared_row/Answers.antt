@@ -1,5 +1,5 @@
 use Rattle.std.proofs.Common.{◌≡◌, arith, ap, ◌∷◌, [], ◌∙◌}
-use Rattle.family_file.specs.FamilyView.{family_view}
+use Rattle.family.specs.FamilyView.{family_view}
 use Rattle.neat_system.proofs.TargetRows.{one_term, no_term, is_zero_at, declared_zero, declared_other}
 use Rattle.neat_system.proofs.declared.declared_row.Goals as goal
 

@@ -1,6 +1,6 @@
 use Rattle.std.proofs.Common.{◌≡◌, ◌∷◌, [], ◌++◌, ◌*◌, ◌<◌, ◌≤◌, ◌^◌, length, sym, ◌∙◌, ap, subst, arith}
-use Rattle.family_file.specs.FamilyView.{family_view}
-use Rattle.family_file.specs.Family.{FamilyData}
+use Rattle.family.specs.FamilyView.{family_view}
+use Rattle.family.specs.FamilyData.{FamilyData}
 use Rattle.system_text.specs.declared.value.SectorBlock.{SectorBlock}
 use Rattle.neat_system.proofs.GatheredWorks.{piece_work}
 use Rattle.neat_system.proofs.Lengths.{sector_fits, few_in_all}

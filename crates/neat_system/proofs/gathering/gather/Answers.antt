@@ -1,4 +1,4 @@
-use Rattle.family_file.specs.FamilyView.{family_view}
+use Rattle.family.specs.FamilyView.{family_view}
 use Rattle.neat_system.proofs.GatheredWorks.{gathers_more}
 use Rattle.neat_system.proofs.gathering.gather.Goals as goal
 

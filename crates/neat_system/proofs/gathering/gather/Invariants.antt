@@ -1,5 +1,5 @@
 use Rattle.std.proofs.Common.{take}
-use Rattle.family_file.specs.FamilyView.{family_view}
+use Rattle.family.specs.FamilyView.{family_view}
 use Rattle.neat_system.specs.Gathering.{Gathers}
 use Rattle.neat_system.proofs.gathering.gather.Given as goal
 

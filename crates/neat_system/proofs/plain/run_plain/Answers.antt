@@ -1,7 +1,7 @@
 use Rattle.std.proofs.Common.{◌≡◌, ◌≢◌, Ok, Err, subst}
 use Rattle.std.specs.Prelude.{◌↔◌}
 use Rattle.sector_lattice.specs.declared.sector.Sector.{Sector}
-use Rattle.family_file.specs.Family.{FamilyData}
+use Rattle.family.specs.FamilyData.{FamilyData}
 use Rattle.sector_job.specs.declared.outcome.Outcome.TheVariants as outcome
 use Rattle.system_text.specs.declared.value.System.{System}
 use Rattle.neat_system.specs.declared.fault.SystemFault.TheVariants.{PairsSpent, DegreeOver, CandidatesOver, NoMemory}

@@ -1,6 +1,6 @@
 use Rattle.std.proofs.Common.{◌≡◌, List, sym, ◌∙◌, ap, subst}
-use Rattle.family_file.specs.FamilyView.{family_view}
-use Rattle.family_file.specs.Family.{FamilyData}
+use Rattle.family.specs.FamilyView.{family_view}
+use Rattle.family.specs.FamilyData.{FamilyData}
 use Rattle.relay_core.specs.Relay.{Opens}
 use Rattle.sector_job.specs.Candidates.{Integral}
 use Rattle.sector_job.specs.Outcomes.{opening_targets}

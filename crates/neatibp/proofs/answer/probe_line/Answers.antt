@@ -1,4 +1,4 @@
-use Rattle.family_file.specs.FamilyView.{family_view}
+use Rattle.family.specs.FamilyView.{family_view}
 use Rattle.neatibp.specs.Refusals.{of_identity_fault}
 use Rattle.neatibp.proofs.Probes.{refuses, answers_refusal}
 use Rattle.neatibp.proofs.answer.probe_line.Goals as goal

@@ -1,7 +1,7 @@
 use Rattle.std.proofs.Common.{◌≡◌, Ok, subst, ap, ◌∙◌}
 use Rattle.family_file.specs.declared.need.Need.{Need}
 use Rattle.family_file.specs.Family.{family_of}
-use Rattle.family_file.specs.FamilyView.{family_view}
+use Rattle.family.specs.FamilyView.{family_view}
 use Rattle.neatibp.specs.Causes.{need_of}
 use Rattle.neatibp.proofs.Probes.{has_needed_probe, has_needed_sector}
 use Rattle.neatibp.proofs.answer.text_of.Goals as goal

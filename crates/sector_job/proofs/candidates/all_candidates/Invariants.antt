@@ -1,4 +1,4 @@
-use Rattle.family_file.specs.FamilyView.{family_view}
+use Rattle.family.specs.FamilyView.{family_view}
 use Rattle.sector_job.proofs.Listing.{Lists}
 use Rattle.sector_job.proofs.candidates.all_candidates.Given as goal
 

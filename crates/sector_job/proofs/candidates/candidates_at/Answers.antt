@@ -1,7 +1,7 @@
 use Rattle.std.proofs.Common.{sym, subst}
-use Rattle.family_file.specs.FamilyView.{family_view}
-use Rattle.family_file.specs.Conditions.{IsInSectorModule}
-use Rattle.family_file.specs.declared.parts.StrippedField.{StrippedField}
+use Rattle.family.specs.FamilyView.{family_view}
+use Rattle.family.specs.Conditions.{IsInSectorModule}
+use Rattle.family.specs.declared.parts.StrippedField.{StrippedField}
 use Rattle.sector_job.proofs.Listing.{front_more}
 use Rattle.sector_job.proofs.candidates.candidates_at.Goals as goal
 

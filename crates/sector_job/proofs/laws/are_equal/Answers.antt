@@ -1,4 +1,4 @@
-use Rattle.family_file.proofs.SameFamily.{decided_by}
+use Rattle.family.proofs.SameFamily.{decided_by}
 use Rattle.sector_job.specs.EqualPlans.{same_family, families_decide}
 use Rattle.sector_job.proofs.laws.are_equal.Goals as goal
 

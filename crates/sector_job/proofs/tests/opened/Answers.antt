@@ -1,6 +1,6 @@
 use Rattle.std.proofs.Common.{◌≡◌, length, sym, ◌∙◌, ap}
 use Rattle.std.proofs.lemmas.Bool.{eqb-true}
-use Rattle.family_file.specs.FamilyView.{family_view}
+use Rattle.family.specs.FamilyView.{family_view}
 use Rattle.sector_job.specs.Outcomes.{opening_targets}
 use Rattle.sector_job.proofs.Opening.{all_open}
 use Rattle.sector_job.proofs.tests.opened.Goals as goal

@@ -1,9 +1,9 @@
 use Rattle.std.proofs.Common.{◌*◌, ◌<◌, ◌^◌, List, length, sym, subst, ◌∙◌, ap, arith}
 use Rattle.std.specs.List.{All}
 use Rattle.sector_lattice.specs.Seeds.{seed_number}
-use Rattle.family_file.specs.FamilyView.{family_view}
-use Rattle.family_file.specs.Shapes.{ArePowers}
-use Rattle.family_file.specs.declared.parts.StrippedField.{StrippedField}
+use Rattle.family.specs.FamilyView.{family_view}
+use Rattle.family.specs.Shapes.{ArePowers}
+use Rattle.family.specs.declared.parts.StrippedField.{StrippedField}
 use Rattle.sector_job.specs.Candidates.{Integral}
 use Rattle.sector_job.proofs.Steps.{fits_below, is_over, all_powers, few_rows, within_budget}
 use Rattle.sector_job.proofs.working.outcome_by.Goals as goal

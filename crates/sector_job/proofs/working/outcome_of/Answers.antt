@@ -1,5 +1,5 @@
 use Rattle.std.proofs.Common.{sym, subst, ap}
-use Rattle.family_file.specs.FamilyView.{family_view}
+use Rattle.family.specs.FamilyView.{family_view}
 use Rattle.sector_job.specs.Outcomes.{HasBasis}
 use Rattle.sector_job.proofs.Steps.{fits_below}
 use Rattle.sector_job.proofs.working.outcome_of.Goals as goal

@@ -6,9 +6,9 @@ use Rattle.mono_order.specs.TermOrder.{over_position, zero_dominates}
 use Rattle.module_vec.specs.ModuleVector.{ModuleVector, IsMember}
 use Rattle.module_basis.specs.GroebnerBasis.{IsGroebnerBasis, IsReducedBasis}
 use Rattle.module_basis.proofs.RunCounts.{run_counts}
-use Rattle.family_file.specs.declared.parts.StrippedField.{StrippedField}
-use Rattle.family_file.specs.Shapes.{IsField}
-use Rattle.family_file.specs.Conditions.{IsInSectorModule}
+use Rattle.family.specs.declared.parts.StrippedField.{StrippedField}
+use Rattle.family.specs.Shapes.{IsField}
+use Rattle.family.specs.Conditions.{IsInSectorModule}
 use Rattle.sector_module.specs.Factors.{sector_factors, sector_generators}
 use Rattle.sector_module.specs.FieldsOf.{IsFieldOf}
 use Rattle.sector_module.specs.SectorBasis.{IsSectorBasis}

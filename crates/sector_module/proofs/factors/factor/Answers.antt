@@ -6,8 +6,8 @@ use Rattle.ibp_algebra.specs.FormalSum.{AllKeys, IsCanonical}
 use Rattle.ibp_algebra.specs.Polynomial.{SamePolynomial, derivative, multiply}
 use Rattle.ibp_algebra.specs.Field.{variable}
 use Rattle.ibp_algebra.proofs.Combinations.{AllKeys-weaker}
-use Rattle.family_file.specs.Shapes.{HasVariables}
-use Rattle.family_file.specs.Conditions.{in_sector}
+use Rattle.family.specs.Shapes.{HasVariables}
+use Rattle.family.specs.Conditions.{in_sector}
 use Rattle.sector_module.proofs.FactorLaws.{degree_within, code_variable, code_variable_is, times_variable, variable_degree, derived_degrees, product_degrees, degrees_more, of_sector}
 use Rattle.sector_module.proofs.factors.factor.Goals as goal
 

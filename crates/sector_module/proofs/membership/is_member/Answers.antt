@@ -7,8 +7,8 @@ use Rattle.ibp_algebra.specs.FormalSum.{IsCanonical}
 use Rattle.ibp_algebra.specs.Exponents.{deg_rev_lex}
 use Rattle.ibp_algebra.specs.Polynomial.{Polynomial}
 use Rattle.sparse_poly.specs.Equality.{one_polynomial-Decides}
-use Rattle.family_file.specs.Shapes.{IsPolynomial}
-use Rattle.family_file.specs.Conditions.{in_sector}
+use Rattle.family.specs.Shapes.{IsPolynomial}
+use Rattle.family.specs.Conditions.{in_sector}
 use Rattle.sector_module.proofs.FactorLaws.{degree_within}
 use Rattle.sector_module.proofs.MemberSums.{combination_step, Decides-member}
 use Rattle.sector_module.proofs.membership.is_member.Goals as goal

@@ -1,7 +1,7 @@
 use Rattle.std.proofs.Common.{take}
 use Rattle.ibp_algebra.specs.Polynomial.{SamePolynomial}
 use Rattle.ibp_algebra.specs.Field.{stripped_derivative}
-use Rattle.family_file.specs.Conditions.{in_sector}
+use Rattle.family.specs.Conditions.{in_sector}
 use Rattle.sector_module.proofs.membership.is_member.Given as goal
 
 abbrev pub invariant-loop-i : goal.invariant-loop-i

@@ -1,6 +1,6 @@
 //! A family.
 
-ghost use Rattle.family_file.specs.Limits.{FamilyLimits, limits-prop};
+ghost use Rattle.family.specs.Limits.{FamilyLimits, limits-prop};
 
 use crate::name::Name;
 use crate::parts::{Bounds, Budget, Probe};

@@ -3,8 +3,8 @@ use Rattle.std.specs.Cmp.Lexicographic.{pointwise_decides}
 use Rattle.std.proofs.lemmas.Bool.Decides.{Decides-and, Decides-like}
 use Rattle.sparse_poly.specs.Equality.{one_polynomial-Decides}
 use Rattle.sector_lattice.specs.Orders.{integrals_decide}
-use Rattle.family_file.proofs.SameFamily.{decided_by, sectors_decide, bounds_decide, budget_decides, probes_decide, options_decide}
-use Rattle.family_file.proofs.laws.are_equal.Goals as goal
+use Rattle.family.proofs.SameFamily.{decided_by, sectors_decide, bounds_decide, budget_decides, probes_decide, options_decide}
+use Rattle.family.proofs.laws.are_equal.Goals as goal
 
 pub returns : goal.returns
 returns c =

@@ -7,7 +7,7 @@ use Rattle.std.specs.declared.cmp.Ordering.TheVariants.{Less, Equal, Greater}
 use Rattle.std.proofs.lemmas.Nat.Bits.{bit_at-zero, bit_at_lowest, bit_at-suc}
 use Rattle.sector_lattice.specs.Sectors.{sector_of, is_positive}
 use Rattle.ibp_algebra.specs.Identity.{in_sector_of}
-use Rattle.family_file.specs.Conditions.{in_sector}
+use Rattle.family.specs.Conditions.{in_sector}
 
 tests_below : (b c : Bool) → is_lt (cond b Less (cond c Greater Equal)) ≡ b
 tests_below true c = refl

@@ -14,12 +14,12 @@ use Rattle.ibp_algebra.specs.Laurent.{same_powers}
 use Rattle.ibp_algebra.specs.Polynomial.{Polynomial}
 use Rattle.mono_order.specs.declared.limits.TheConstants.{VARIABLES}
 use Rattle.sector_lattice.specs.declared.sector.Sector.{Sector}
-use Rattle.poly_text.specs.declared.limits.TheConstants.{DEGREE_LIMIT, TERM_LIMIT}
-use Rattle.family_file.specs.declared.ranges.TheConstants.{CAP_LIMIT, EXTRA_LIMIT, PAIR_LIMIT, CANDIDATE_LIMIT, TARGET_LIMIT, SECTOR_LIMIT}
-use Rattle.family_file.specs.declared.parts.Bounds.{Bounds}
-use Rattle.family_file.specs.declared.parts.Budget.{Budget}
-use Rattle.family_file.specs.declared.parts.Probe.{Probe}
-use Rattle.family_file.specs.Shapes.{HasVariables, IsPolynomial, IsField, ArePowers}
+use Rattle.sparse_poly.specs.declared.limits.TheConstants.{DEGREE_LIMIT, TERM_LIMIT}
+use Rattle.family.specs.declared.limits.TheConstants.{CAP_LIMIT, EXTRA_LIMIT, PAIR_LIMIT, CANDIDATE_LIMIT, TARGET_LIMIT, SECTOR_LIMIT}
+use Rattle.family.specs.declared.parts.Bounds.{Bounds}
+use Rattle.family.specs.declared.parts.Budget.{Budget}
+use Rattle.family.specs.declared.parts.Probe.{Probe}
+use Rattle.family.specs.Shapes.{HasVariables, IsPolynomial, IsField, ArePowers}
 
 pub record BoundsWithin (bounds : Bounds) : Type 0 where
   pub dots_cap : bounds.dots_cap ≤ CAP_LIMIT

@@ -11,10 +11,10 @@ use Rattle.sparse_poly.specs.Equality.{one_polynomial, one_polynomial-Decides}
 use Rattle.sector_lattice.specs.declared.sector.Sector.{Sector}
 use Rattle.sector_lattice.specs.Sectors.{integral_cmp}
 use Rattle.sector_lattice.specs.Orders.{integrals_decide}
-use Rattle.family_file.specs.declared.parts.Bounds.{Bounds}
-use Rattle.family_file.specs.declared.parts.Budget.{Budget}
-use Rattle.family_file.specs.declared.parts.Field.{Field}
-use Rattle.family_file.specs.declared.parts.Probe.{Probe}
+use Rattle.family.specs.declared.parts.Bounds.{Bounds}
+use Rattle.family.specs.declared.parts.Budget.{Budget}
+use Rattle.family.specs.declared.parts.Field.{Field}
+use Rattle.family.specs.declared.parts.Probe.{Probe}
 
 pub decided_by : (r b : Bool) (P : Type 0) → r ≡ b → Decides b P → Decides r P
 decided_by r b P same h = (λ yes. h.0 (sym same ∙ yes), λ p. same ∙ h.1 p)

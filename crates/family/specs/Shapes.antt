@@ -10,7 +10,7 @@ use Rattle.ibp_algebra.specs.Exponents.{deg_rev_lex}
 use Rattle.ibp_algebra.specs.Laurent.{power_at}
 use Rattle.ibp_algebra.specs.Polynomial.{Polynomial}
 use Rattle.mono_order.specs.declared.limits.TheConstants.{VARIABLES}
-use Rattle.family_file.specs.declared.ranges.TheConstants.{LEAST_POWER, GREATEST_POWER}
+use Rattle.family.specs.declared.limits.TheConstants.{LEAST_POWER, GREATEST_POWER}
 
 pub record HasVariables (n : ℕ) (m : List ℕ) : Type 0 where
   pub nine : length m ≡ VARIABLES

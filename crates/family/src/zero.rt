@@ -1,7 +1,7 @@
 //! The sectors whose integrals are declared to be zero.
 
 ghost use Rattle.std.specs.Prelude.{◌≡◌};
-ghost use Rattle.family_file.specs.Conditions.{is_zero_sector};
+ghost use Rattle.family.specs.Conditions.{is_zero_sector};
 
 use crate::family::Family;
 use sector_lattice::{Sector, is_subsector_of_any};

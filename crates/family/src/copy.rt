@@ -1,7 +1,7 @@
 //! Copies.
 
 ghost use Rattle.std.specs.Prelude.{◌≡◌, IfOk};
-ghost use Rattle.family_file.specs.FamilyView.{family_view};
+ghost use Rattle.family.specs.FamilyView.{family_view};
 
 use crate::family::Family;
 use crate::parts::{Field, Probe};

@@ -4,9 +4,9 @@ ghost use Rattle.std.specs.Prelude.{◌≡◌, IfOk, true, nat_eq};
 ghost use Rattle.std.specs.Cmp.{partial_equiv_from_equiv};
 ghost use Rattle.std.specs.Cmp.Lexicographic.{nat_list_eq_equiv, pointwise};
 ghost use Rattle.std.specs.List.{list_all};
-ghost use Rattle.family_file.specs.Name.{is_name_byte, is_name, name_of};
+ghost use Rattle.family.specs.Name.{is_name_byte, is_name, name_of};
 
-use crate::ranges::FAMILY_NAME_LIMIT;
+use crate::limits::FAMILY_NAME_LIMIT;
 use ibp_base::NoMemory;
 use std::alloc::Global;
 use std::marker::Model;
@@ -19,7 +19,7 @@ pub struct Name {
 
 impl Model for Name {
     ghost use Rattle.std.specs.Prelude.{◌≡◌, true, List, ℕ};
-    ghost use Rattle.family_file.specs.Name.{is_name};
+    ghost use Rattle.family.specs.Name.{is_name};
 
     ghost Value = { List ℕ };
 

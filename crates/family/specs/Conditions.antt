@@ -5,8 +5,8 @@ use Rattle.ibp_algebra.specs.Field.{MeetsConditions, IsInModule}
 use Rattle.ibp_algebra.specs.Polynomial.{Polynomial}
 use Rattle.sector_lattice.specs.declared.sector.Sector.{Sector}
 use Rattle.sector_lattice.specs.Subsectors.{is_subsector_of_any}
-use Rattle.family_file.specs.declared.parts.Field.{Field}
-use Rattle.family_file.specs.declared.parts.StrippedField.{StrippedField}
+use Rattle.family.specs.declared.parts.Field.{Field}
+use Rattle.family.specs.declared.parts.StrippedField.{StrippedField}
 
 -- the variable at place i, counted from 0, is in the sector of this number
 abbrev pub in_sector : ℕ → ℕ → Bool

@@ -1,0 +1,21 @@
+//! Families of Feynman integrals, with what is asked of them and the limits that they keep.
+#![tactic(auto)]
+
+mod copy;
+mod family;
+pub mod laws;
+mod limits;
+mod name;
+mod parts;
+mod zero;
+
+pub use family::Family;
+pub use limits::{
+    CANDIDATE_LIMIT, CAP_LIMIT, EXTRA_LIMIT, FAMILY_NAME_LIMIT, GREATEST_POWER, LEAST_POWER,
+    PAIR_LIMIT, SECTOR_LIMIT, TARGET_LIMIT,
+};
+pub use name::Name;
+pub use parts::{Bounds, Budget, Field, Probe, StrippedField};
+
+#[cfg(test)]
+mod tests;

@@ -1,0 +1,13 @@
+//! The limits of a family file.
+
+/// The greatest length of a file, in bytes.
+pub const MAX_FILE: usize = 1_048_576;
+
+/// The greatest number of loops.
+pub const LOOP_LIMIT: u32 = 3;
+
+/// The greatest number of independent external momenta.
+pub const LEG_LIMIT: u32 = 8;
+
+/// The greatest number of numbers that have names.
+pub const NUMBER_LIMIT: usize = 64;
