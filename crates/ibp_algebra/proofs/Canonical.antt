@@ -7,6 +7,7 @@ use Rattle.std.specs.Ordering.{ordering_reverse}
 use Rattle.std.specs.Cmp.{IsTotalOrder}
 use Rattle.std.specs.FinMap.{IsAntisymmetric}
 use Rattle.std.specs.Bool.{Decides}
+use Rattle.ibp_base.proofs.Tests.{is_false}
 use Rattle.ibp_algebra.specs.FormalSum.{FormalSum, weighted_sum, SameCoefficients, AllBelow, IsCanonical}
 use Rattle.ibp_algebra.proofs.Weights.{unit_weight}
 
@@ -14,10 +15,6 @@ own_reverse : (r : Ordering) → r ≡ ordering_reverse r → r ≡ Equal
 own_reverse Less e = cc
 own_reverse Equal e = refl
 own_reverse Greater e = cc
-
-is_false : (b : Bool) → ¬ (b ≡ true) → b ≡ false
-is_false true h = absurd (h refl)
-is_false false h = refl
 
 module _ {K : Type 0} (order : K → K → Ordering) (total : IsTotalOrder order) where
   pub order_refl : (a : K) → order a a ≡ Equal

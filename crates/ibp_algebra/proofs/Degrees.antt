@@ -1,5 +1,5 @@
 -- The degree of a polynomial bounds the degrees of its terms, and the first term of a canonical one has it.
-use Rattle.std.proofs.Common.{◌≡◌, ◌≢◌, ℕ, ◌+◌, ◌<◌, ◌≤◌, List, [], ◌∷◌, sum, arith}
+use Rattle.std.proofs.Common.{◌≡◌, ◌≢◌, ℕ, ◌+◌, ◌<◌, ◌≤◌, List, [], ◌∷◌, sum, ◌∙◌, arith}
 use Rattle.std.specs.Prelude.{max}
 use Rattle.std.specs.declared.cmp.Ordering.{Ordering}
 use Rattle.std.specs.declared.cmp.Ordering.TheVariants.{Less, Equal, Greater}
@@ -8,9 +8,9 @@ use Rattle.std.specs.Cmp.{ranks}
 use Rattle.ibp_algebra.specs.FormalSum.{AllKeys, IsCanonical}
 use Rattle.ibp_algebra.specs.Exponents.{deg_rev_lex, same_exponents}
 use Rattle.ibp_algebra.specs.ExponentOrder.{exponents_decide, deg_rev_lex_total}
-use Rattle.ibp_algebra.specs.Polynomial.{Polynomial, coefficient_at, degree_of}
+use Rattle.ibp_algebra.specs.Polynomial.{Polynomial, SamePolynomial, coefficient_at, degree_of}
 use Rattle.ibp_algebra.proofs.Canonical.{coefficient-lead}
-use Rattle.ibp_algebra.proofs.Terms.{coefficient-CountingKeys}
+use Rattle.ibp_algebra.proofs.Terms.{coefficient-CountingKeys, AllKeys-canonical}
 use Rattle.ibp_algebra.proofs.Divisibility.{CountingKeys-from_all}
 
 not_greater : (a b : ℕ) (r s : Ordering) → MatchOrdering r (a < b) (a ≡ b) (b < a) → ordering_then r s ≡ Greater → b ≤ a
@@ -67,3 +67,14 @@ products_fit_from limit d (t ∷ f) g h k = (sums_fit limit (degree_of g) t.0 g 
 -- the products of the terms have at most the sum of the degrees
 pub products_fit : (limit : ℕ) (f g : Polynomial) → degree_of f + degree_of g ≤ limit → AllKeys (λ m. AllKeys (λ k. sum m + sum k ≤ limit) g) f
 products_fit limit f g h = products_fit_from limit (degree_of f) f g h (AllKeys-degree_of f)
+
+-- what holds of each term of a polynomial holds of each term of a canonical one with the same coefficients
+pub AllKeys-same : (P : List ℕ → Type 0) (f g : Polynomial) → IsCanonical deg_rev_lex f → SamePolynomial f g → AllKeys P g → AllKeys P f
+AllKeys-same P f g canonical same h =
+    AllKeys-canonical same_exponents exponents_decide deg_rev_lex deg_rev_lex_total P f canonical
+    (λ key counts. coefficient-CountingKeys same_exponents exponents_decide P g (CountingKeys-from_all P g h) key
+    (λ zero. counts (same.same_at key ∙ zero)))
+
+pub degree_within : (degree : ℕ) (f : Polynomial) → AllKeys (λ m. sum m ≤ degree) f → degree_of f ≤ degree
+degree_within degree [] h = omega arith
+degree_within degree (t ∷ f) h = omega (arith, h.0, degree_within degree f h.1)

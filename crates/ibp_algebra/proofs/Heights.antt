@@ -8,7 +8,8 @@ use Rattle.std.proofs.Math.Nat.{pow-succ', pow-le-pow_left, one-le-pow}
 use Rattle.std.proofs.lemmas.Nat.{mul-le}
 use Rattle.ibp_algebra.specs.Exponents.{deg_rev_lex, exponent_digits, monomial_height}
 use Rattle.ibp_algebra.specs.ExponentOrder.{deg_rev_lex_unique}
-use Rattle.ibp_algebra.proofs.ReverseLex.{reverse_lex, deg_rev_lex-is, sum-cons}
+use Rattle.ibp_algebra.proofs.ReverseLex.{reverse_lex, deg_rev_lex-is}
+use Rattle.ibp_algebra.proofs.SumOfExponents.{sum-cons}
 
 reverse_lex-Equal : (xs ys : List ℕ) → length xs ≡ length ys → reverse_lex xs ys ≡ Equal → xs ≡ ys
 reverse_lex-Equal [] [] p e = refl

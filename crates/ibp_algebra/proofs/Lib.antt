@@ -4,7 +4,6 @@ pub mod Canonical
 pub mod NormalForm
 pub mod ZeroDivisors
 pub mod Terms
-pub mod Joining
 pub mod Striking
 pub mod Combinations
 pub mod StandardRepresentations
@@ -26,3 +25,4 @@ pub mod Lookups
 pub mod Prefixes
 pub mod Existence
 pub mod Permuting
+pub mod Numbers

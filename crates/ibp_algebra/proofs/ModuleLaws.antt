@@ -1,14 +1,22 @@
 -- The stripped fields of a sector are the solutions of one equation: c is in the module exactly where the
 -- combination of the f_i with it equals b times P. The first condition holds of each unstripped form.
-use Rattle.std.proofs.Common.{◌≡◌, ℕ, zero, suc, ◌+◌, ◌<◌, Bool, true, false, if◌then◌else◌, List, [], ◌∷◌, length, get_or, sym, refl, subst, add-zero, zero-add, arith}
+use Rattle.std.proofs.Common.{◌≡◌, ℕ, zero, suc, ◌+◌, ◌<◌, Bool, true, false, if◌then◌else◌, List, [], ◌∷◌, ◌++◌, length, get_or, sym, refl, subst, add-zero, zero-add, arith}
 use Rattle.std.specs.Prelude.{IsTrue}
 use Rattle.ibp_algebra.specs.FormalSum.{AllKeys}
 use Rattle.ibp_algebra.proofs.SumLaws.{SameCoefficients-refl, SameCoefficients-sym, SameCoefficients-trans}
 use Rattle.ibp_algebra.specs.Polynomial.{Polynomial, SamePolynomial, IsDivisibleBy, multiply, derivative, derivative_along_from}
-use Rattle.ibp_algebra.specs.Field.{unit_exponents, variable, unstripped_from, unstripped, IsInModule, stripped_derivative_from, stripped_derivative}
+use Rattle.ibp_algebra.specs.Field.{unit_exponents, variable, unstripped_from, unstripped, IsInModule, sector_factor}
 use Rattle.ibp_algebra.proofs.ExponentLaws.{get_or-padded_sum}
 use Rattle.ibp_algebra.proofs.Divisibility.{IsDivisibleBy-from_all}
 use Rattle.ibp_algebra.proofs.PolynomialLaws.{SamePolynomial-append, SamePolynomial-multiply, multiply_comm, multiply_assoc}
+
+-- the derivative of p along the unstripped form: the sum over i of c_i f_i
+abbrev pub stripped_derivative_from : ℕ → (ℕ → Bool) → List Polynomial → Polynomial → Polynomial
+stripped_derivative_from i in_sector [] p = []
+stripped_derivative_from i in_sector (c ∷ others) p = multiply c (sector_factor p in_sector i) ++ stripped_derivative_from (suc i) in_sector others p
+
+abbrev pub stripped_derivative : (ℕ → Bool) → List Polynomial → Polynomial → Polynomial
+stripped_derivative in_sector c p = stripped_derivative_from 0 in_sector c p
 
 -- a variable may go to either factor
 variable_moved : (z c d : Polynomial) → SamePolynomial (multiply (multiply z c) d) (multiply c (multiply z d))

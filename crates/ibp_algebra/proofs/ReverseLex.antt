@@ -8,10 +8,9 @@ use Rattle.std.specs.declared.cmp.Ordering.{Ordering}
 use Rattle.std.specs.declared.cmp.Ordering.TheVariants.{Less, Equal, Greater}
 use Rattle.std.proofs.lemmas.List.{reverse-append, length-reverse}
 use Rattle.std.proofs.lemmas.Bool.{cases_lt}
-use Rattle.std.proofs.lemmas.List.Sums.{sum_by-cons}
 use Rattle.ibp_algebra.specs.Exponents.{add_exponents, deg_rev_lex}
 use Rattle.ibp_algebra.proofs.ExponentLaws.{length-padded_sum}
-use Rattle.ibp_algebra.proofs.SumOfExponents.{sum-add_exponents}
+use Rattle.ibp_algebra.proofs.SumOfExponents.{sum-cons, sum-add_exponents}
 use Rattle.ibp_algebra.proofs.Canonical.{order_refl}
 use Rattle.ibp_algebra.specs.ExponentOrder.{deg_rev_lex_total}
 
@@ -37,9 +36,6 @@ slice_cmp-snoc [] (b ∷ ys) x y e = absurd (omega arith)
 slice_cmp-snoc (a ∷ xs) [] x y e = absurd (omega arith)
 slice_cmp-snoc (a ∷ xs) (b ∷ ys) x y e =
     ap (ordering_then (nat_cmp a b)) (slice_cmp-snoc xs ys x y (omega arith)) ∙ sym (then_assoc (nat_cmp a b) (slice_cmp nat_cmp xs ys) (nat_cmp x y))
-
-pub sum-cons : (x : ℕ) (xs : List ℕ) → sum (x ∷ xs) ≡ x + sum xs
-sum-cons x xs = sum_by-cons (λ y. y) x xs
 
 reverse-cons : (x : ℕ) (xs : List ℕ) → reverse (x ∷ xs) ≡ reverse xs ++ x ∷ []
 reverse-cons x xs = reverse-append (x ∷ []) xs

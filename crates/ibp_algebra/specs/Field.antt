@@ -6,12 +6,12 @@
 --     MeetsConditions p in_sector a b     both
 --     unstripped in_sector c              a_i is z_i c_i for i in the sector, and c_i elsewhere
 --     IsInModule p in_sector c b          the unstripped form meets both conditions
---     stripped_derivative in_sector c p   the derivative of p along the unstripped form: the sum over i of c_i f_i,
---                                         where f_i is the derivative of p by z_i, times z_i for i in the sector
+--     sector_factor p in_sector i         f_i: the derivative of p by z_i, times z_i for i in the sector
 -- Source: Baikov's representation of Feynman integrals. The first condition is that of Gluza, Kajda and Kosower,
 -- the equation with p that of Ita and of Larsen and Zhang, and the module of both that of Böhm, Georgoudis, Larsen,
 -- Schulze and Zhang.
-use Rattle.std.specs.Prelude.{ℕ, zero, suc, ◌<◌, Bool, IsTrue, if◌then◌else◌, List, [], ◌∷◌, ◌++◌, length, slice_index_or}
+use Rattle.std.specs.Prelude.{ℕ, suc, ◌<◌, Bool, IsTrue, if◌then◌else◌, List, [], ◌∷◌, length, slice_index_or}
+use Rattle.ibp_algebra.specs.Exponents.{power_exponents}
 use Rattle.ibp_algebra.specs.Polynomial.{Polynomial, SamePolynomial, IsDivisibleBy, multiply, derivative, derivative_along}
 
 abbrev pub IsDividedAt : (ℕ → Bool) → List Polynomial → ℕ → Type 0
@@ -29,8 +29,7 @@ pub record MeetsConditions (p : Polynomial) (in_sector : ℕ → Bool) (a : List
 
 -- the exponents of the variable at place i
 abbrev pub unit_exponents : ℕ → List ℕ
-unit_exponents zero = 1 ∷ []
-unit_exponents (suc i) = 0 ∷ unit_exponents i
+unit_exponents i = power_exponents i 1
 
 abbrev pub variable : ℕ → Polynomial
 variable i = (unit_exponents i, 1) ∷ []
@@ -46,11 +45,5 @@ unstripped in_sector c = unstripped_from 0 in_sector c
 abbrev pub IsInModule : Polynomial → (ℕ → Bool) → List Polynomial → Polynomial → Type 0
 IsInModule p in_sector c b = MeetsConditions p in_sector (unstripped in_sector c) b
 
-abbrev pub stripped_derivative_from : ℕ → (ℕ → Bool) → List Polynomial → Polynomial → Polynomial
-stripped_derivative_from i in_sector [] p = []
-stripped_derivative_from i in_sector (c ∷ others) p =
-    multiply c (if in_sector i then multiply (variable i) (derivative i p) else derivative i p)
-    ++ stripped_derivative_from (suc i) in_sector others p
-
-abbrev pub stripped_derivative : (ℕ → Bool) → List Polynomial → Polynomial → Polynomial
-stripped_derivative in_sector c p = stripped_derivative_from 0 in_sector c p
+abbrev pub sector_factor : Polynomial → (ℕ → Bool) → ℕ → Polynomial
+sector_factor p in_sector i = if in_sector i then multiply (variable i) (derivative i p) else derivative i p

@@ -15,3 +15,4 @@ pub mod Outcomes
 pub mod UnstrippedForms
 pub mod SeedSectors
 pub mod RowKeys
+pub mod SomeRow

@@ -13,3 +13,4 @@ pub mod Forming
 pub mod Opening
 pub mod Keeping
 pub mod Stepping
+pub mod SomeReduced

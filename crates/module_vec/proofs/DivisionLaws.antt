@@ -8,6 +8,7 @@ use Rattle.std.specs.declared.cmp.Ordering.{Ordering}
 use Rattle.std.specs.declared.cmp.Ordering.TheVariants.{Less, Equal, Greater}
 use Rattle.std.specs.Cmp.{IsTotalOrder}
 use Rattle.std.specs.FinMap.{IsAntisymmetric}
+use Rattle.ibp_base.proofs.Tests.{some_is_not_none}
 use Rattle.ibp_field.specs.Arithmetic.{IsCongruent, neg_mod}
 use Rattle.ibp_algebra.specs.FormalSum.{weighted_sum, coefficient, AllKeys, AllBelow, IsCanonical, scale}
 use Rattle.ibp_algebra.specs.Combination.{combination}
@@ -31,11 +32,8 @@ use Rattle.module_vec.proofs.Multiples.{IsMonicVector-multiply, IsTerm-lead, lea
 
 -- ---- a division ends in one way
 
-is_some : {X : Type 0} (x : X) → ◌≡◌ {A = Option X} None (Some x) → ⊥
-is_some x e = cc
-
 in_front-more : (term : Term × ℕ) (x y : Option Division) (d : Division) → ((e : Division) → x ≡ Some e → y ≡ Some e) → in_front term x ≡ Some d → in_front term y ≡ Some d
-in_front-more term None y d more e = absurd (is_some d e)
+in_front-more term None y d more e = absurd (some_is_not_none d e)
 in_front-more term (Some x) y d more e = ap (in_front term) (more x refl) ∙ e
 
 step-more : (order : Term → Term → Ordering) (limit : ℕ) (f g : ModuleVector → Option Division) → ((v : ModuleVector) (d : Division) → f v ≡ Some d → g v ≡ Some d)
@@ -53,7 +51,7 @@ step-more order limit f g more (Some h) term rest d e =
 -- more steps give the same
 pub divide-more : (order : Term → Term → Ordering) (limit : ℕ) (list : List ModuleVector) (n m : ℕ) → n ≤ m → (v : ModuleVector) (d : Division)
     → divide order limit list n v ≡ Some d → divide order limit list m v ≡ Some d
-divide-more order limit list zero m le v d e = absurd (is_some d e)
+divide-more order limit list zero m le v d e = absurd (some_is_not_none d e)
 divide-more order limit list (suc n) zero le v d e = absurd (omega arith)
 divide-more order limit list (suc n) (suc m) le [] d e = e
 divide-more order limit list (suc n) (suc m) le (term ∷ rest) d e =
@@ -70,7 +68,7 @@ DividesTo-unique order limit list v c d h k =
 -- ---- the first divisor
 
 pub first_divisor-some : (list : List ModuleVector) (t : Term) (g : ModuleVector) → first_divisor list t ≡ Some g → Contains list g × (divides (lead g) t ≡ true)
-first_divisor-some [] t g e = absurd (is_some g e)
+first_divisor-some [] t g e = absurd (some_is_not_none g e)
 first_divisor-some (h ∷ list) t g e =
     elim (divides (lead h) t) as (λ b. divides (lead h) t ≡ b → (if b then Some h else first_divisor list t) ≡ Some g → Contains (h ∷ list) g × (divides (lead g) t ≡ true)) [
       | true ↦ λ k s. let is : h ≡ g = cc in ((0, omega arith, is), ap (λ x. divides (lead x) t) (sym is) ∙ k)
@@ -80,7 +78,7 @@ first_divisor-some (h ∷ list) t g e =
     ] refl e
 
 divides_none : (b : Bool) (h : ModuleVector) (later : Option ModuleVector) → (if b then Some h else later) ≡ None → (b ≡ false) × (later ≡ None)
-divides_none true h later e = absurd (is_some h (sym e))
+divides_none true h later e = absurd (some_is_not_none h (sym e))
 divides_none false h later e = (refl, e)
 
 pub first_divisor-none : (list : List ModuleVector) (t : Term) → first_divisor list t ≡ None → (g : ModuleVector) → Contains list g → divides (lead g) t ≡ false
@@ -234,7 +232,7 @@ module _ {variables : ℕ} {order : Term → Term → Ordering} {high : ℕ → 
         }
 
     in_front_remainder : (t : Term × ℕ) (x : Option Division) (r : ModuleVector) → in_front t x ≡ Some (Remainder r) → (s : ModuleVector) × (x ≡ Some (Remainder s)) × (t ∷ s ≡ r)
-    in_front_remainder t None r e = absurd (is_some (Remainder r) e)
+    in_front_remainder t None r e = absurd (some_is_not_none (Remainder r) e)
     in_front_remainder t (Some OverDegree) r e = cc
     in_front_remainder t (Some (Remainder s)) r e = (s, refl, cc)
 
@@ -245,7 +243,7 @@ module _ {variables : ℕ} {order : Term → Term → Ordering} {high : ℕ → 
     -- A division whose steps give a remainder reduces to it.
     pub divide_reduces : (limit n : ℕ) (P : Term → Type 0) → ((t u : Term) → P t → order t u ≡ Greater → P u) → (v r : ModuleVector)
         → IsCanonical order v → AllKeys (IsTerm variables) v → AllKeys P v → divide order limit list n v ≡ Some (Remainder r) → ReducesTo order variables list P v r
-    divide_reduces limit zero P closed v r c valid p e = absurd (is_some (Remainder r) e)
+    divide_reduces limit zero P closed v r c valid p e = absurd (some_is_not_none (Remainder r) e)
     divide_reduces limit (suc n) P closed [] r c valid p e = let is : [] ≡ r = cc in subst (ReducesTo order variables list P []) is (reduces_end P)
     divide_reduces limit (suc n) P closed (t ∷ v) r c valid p e =
         elim (first_divisor list t.0) as (λ x. first_divisor list t.0 ≡ x → division_step order limit (divide order limit list n) x t v ≡ Some (Remainder r) → ReducesTo order variables list P (t ∷ v) r) [
@@ -346,7 +344,7 @@ module _ {variables : ℕ} {order : Term → Term → Ordering} {high : ℕ → 
     -- A division stays within the limit where all lesser terms of those of the vector do, as for low terms.
     pub divide_within : (limit n : ℕ) (P : Term → Type 0) → ((t u : Term) → P t → order t u ≡ Greater → P u) → ((t : Term) → P t → sum t.1 ≤ limit)
         → (v : ModuleVector) → IsCanonical order v → AllKeys (IsTerm variables) v → AllKeys P v → divide order limit list n v ≢ Some OverDegree
-    divide_within limit zero P closed bounded v c valid p e = absurd (is_some OverDegree e)
+    divide_within limit zero P closed bounded v c valid p e = absurd (some_is_not_none OverDegree e)
     divide_within limit (suc n) P closed bounded [] c valid p e = cc
     divide_within limit (suc n) P closed bounded (t ∷ v) c valid p e =
         elim (first_divisor list t.0) as (λ x. first_divisor list t.0 ≡ x → division_step order limit (divide order limit list n) x t v ≡ Some OverDegree → ⊥) [

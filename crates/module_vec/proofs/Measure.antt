@@ -8,7 +8,12 @@ use Rattle.mono_order.specs.Term.{Term, IsTerm}
 use Rattle.mono_order.specs.TermOrder.{IsTermOrder}
 use Rattle.mono_order.proofs.TermInduction.{low_below}
 use Rattle.module_vec.specs.ModuleVector.{ModuleVector}
-use Rattle.module_vec.specs.Division.{lead_measure}
+
+-- A measure of what a division has left: it is zero for the zero vector, and falls with the lead. The high
+-- terms come after all bounded low ones.
+abbrev pub lead_measure : (ℕ → Bool) → (Term → ℕ) → ℕ → ModuleVector → ℕ
+lead_measure high height bound [] = 0
+lead_measure high height bound (term ∷ rest) = if high term.0.0 then suc (bound + height term.0) else suc (height term.0)
 
 module _ {variables : ℕ} {order : Term → Term → Ordering} {high : ℕ → Bool} {height : Term → ℕ} {bound : ℕ}
     (laws : IsTermOrder variables order high height bound) where

@@ -11,7 +11,7 @@ use Rattle.ibp_algebra.proofs.SumLaws.{SameCoefficients-sym, SameCoefficients-tr
 use Rattle.ibp_algebra.proofs.Canonical.{same_canonical}
 use Rattle.ibp_algebra.proofs.NormalForm.{IsCanonical-normal_form, AllKeys-normal_form, SameCoefficients-normal_form}
 use Rattle.ibp_algebra.proofs.ZeroDivisors.{AllKeys-append, AllKeys-scale}
-use Rattle.sparse_terms.proofs.Ties.{ties_decide}
+use Rattle.ibp_algebra.proofs.Members.{order_decides}
 use Rattle.mono_order.specs.Term.{Term, same_term, IsTerm}
 use Rattle.mono_order.specs.TermOrder.{IsTermOrder}
 use Rattle.mono_order.proofs.Terms.{terms_decide}
@@ -23,7 +23,7 @@ module _ {variables : ℕ} {order : Term → Term → Ordering} {high : ℕ → 
   -- a canonical sum with these coefficients is the normal form
   pub is_normal : (v f : ModuleVector) → IsCanonical order v → SameCoefficients (eq_by_cmp order) v f → v ≡ normal_form order f
   is_normal v f canonical same =
-      let decides = ties_decide order laws.total laws.unique in
+      let decides = order_decides order laws.total laws.unique in
       same_canonical order laws.total (eq_by_cmp order) decides laws.unique v (normal_form order f) canonical (IsCanonical-normal_form order laws.total laws.unique f)
       (SameCoefficients-trans same (SameCoefficients-sym (SameCoefficients-normal_form order laws.total laws.unique (eq_by_cmp order) decides f)))
 

@@ -5,21 +5,23 @@
 --     monic_of order v                 v divided by the coefficient of its lead
 --     divide                           so many steps of the division, and None where they are too few
 --     DividesTo                        the division ends so, after some number of steps
---     lead_measure                     a number that falls with the lead
 --     ReducesTo                        what holds of a vector and its remainder
+--     IsRemainder                      the same in the textbook's words, for a remainder of the whole vector
 --     s_vector order g h               the difference of the multiples that meet at the least common multiple of the leads
 --     is_s_vector_over limit g h       the least common multiple or a term of these multiples has a degree above the limit
 -- A division looks at the lead of what is left. The first vector of the list whose lead divides it is
 -- subtracted in the fitting multiple, or the division is over-degree where this multiple has a term of degree
 -- above the limit. Where there is no such vector, the lead moves to the remainder.
 -- Source: the division algorithm for free modules and S-vectors as in Using Algebraic Geometry of Cox, Little and O'Shea.
-use Rattle.std.specs.Prelude.{◌≡◌, ℕ, zero, suc, ◌+◌, Bool, false, ◌||◌, if◌then◌else◌, nat_lt, sum, Option, Some, None, List, [], ◌∷◌, ◌++◌}
+use Rattle.std.specs.Prelude.{◌≡◌, ◌≢◌, ℕ, zero, suc, ◌+◌, Bool, false, ◌||◌, if◌then◌else◌, nat_lt, sum, Option, Some, None, List, [], ◌∷◌, ◌++◌}
 use Rattle.std.specs.declared.cmp.Ordering.{Ordering}
+use Rattle.std.specs.declared.cmp.Ordering.TheVariants.{Less}
 use Rattle.ibp_field.specs.Arithmetic.{neg_mod, inverse_mod}
 use Rattle.ibp_algebra.specs.FormalSum.{FormalSum, AllKeys, IsCanonical, scale, normal_form}
 use Rattle.ibp_algebra.specs.Combination.{combination}
+use Rattle.ibp_algebra.specs.Spans.{difference}
 use Rattle.mono_order.specs.Term.{Term, quotient_exponents, lcm_term, divides, IsTerm}
-use Rattle.module_vec.specs.ModuleVector.{ModuleVector, SameVector, multiply_vector, lead, lead_coefficient, Multiple, multiple_value, multiple_lead, IsMultipleOf}
+use Rattle.module_vec.specs.ModuleVector.{ModuleVector, SameVector, multiply_vector, lead, lead_coefficient, Multiple, multiple_value, multiple_lead, IsMultipleOf, IsVector, HasDivisor}
 
 abbrev pub first_divisor : List ModuleVector → Term → Option ModuleVector
 first_divisor [] t = None
@@ -78,12 +80,6 @@ pub record DividesTo (order : Term → Term → Ordering) (limit : ℕ) (list : 
   pub steps : ℕ
   pub ends : divide order limit list steps v ≡ Some division
 
--- A measure of what a division has left: it is zero for the zero vector, and falls with the lead. The high
--- terms come after all bounded low ones.
-abbrev pub lead_measure : (ℕ → Bool) → (Term → ℕ) → ℕ → ModuleVector → ℕ
-lead_measure high height bound [] = 0
-lead_measure high height bound (term ∷ rest) = if high term.0.0 then suc (bound + height term.0) else suc (height term.0)
-
 -- The vector v is r plus a sum of multiples of the list, where the leads of the multiples and the terms of r
 -- are of the kind P, and no lead of the list divides a term of r.
 pub record ReducesTo (order : Term → Term → Ordering) (variables : ℕ) (list : List ModuleVector) (P : Term → Type 0) (v r : ModuleVector) : Type 0 where
@@ -95,3 +91,13 @@ pub record ReducesTo (order : Term → Term → Ordering) (variables : ℕ) (lis
   pub multiples : AllKeys (IsMultipleOf variables list) summands
   pub leads : AllKeys (λ k. P (multiple_lead k)) summands
   pub sum : SameVector v (r ++ combination multiple_value summands)
+
+-- The vector v minus r is a sum of multiples of the list, none of which has a term above the lead of v, and no lead of
+-- the list divides a term of r.
+pub record IsRemainder (order : Term → Term → Ordering) (variables : ℕ) (list : List ModuleVector) (v r : ModuleVector) : Type 0 where
+  pub vector : IsVector order variables r
+  pub undivided : AllKeys (λ t. ¬ HasDivisor list t) r
+  pub summands : FormalSum Multiple
+  pub multiples : AllKeys (IsMultipleOf variables list) summands
+  pub not_above : AllKeys (λ k. AllKeys (λ t. order (lead v) t ≢ Less) (multiple_value k)) summands
+  pub difference : SameVector (difference v r) (combination multiple_value summands)

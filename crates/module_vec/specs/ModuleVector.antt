@@ -5,6 +5,7 @@
 --     component_of i v                 the polynomial at component i
 --     lead v, lead_coefficient v       the greatest term of a canonical vector that is not zero, and its coefficient
 --     IsMonic v                        the coefficient at the lead is 1
+--     IsConstantMultiple v w           w is v times a constant
 --     IsVector, IsMonicVector          canonical, with terms in these variables;  and with the coefficient 1 at the lead
 --     Multiple                         a power product and the vector that it multiplies
 --     IsMember variables list v        v lies in the submodule that the vectors of the list generate
@@ -53,6 +54,11 @@ lead_coefficient (term ∷ terms) = term.1
 
 abbrev pub IsMonic : ModuleVector → Type 0
 IsMonic v = lead_coefficient v ≡ 1
+
+-- w is v times a constant
+pub record IsConstantMultiple (v w : ModuleVector) : Type 0 where
+  pub factor : ℕ
+  pub multiple : SameVector w (scale factor v)
 
 -- canonical, with terms in these variables: what the type of vectors keeps, apart from its limit on degrees
 pub record IsVector (order : Term → Term → Ordering) (variables : ℕ) (v : ModuleVector) : Type 0 where

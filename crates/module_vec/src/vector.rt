@@ -2,8 +2,8 @@ ghost use Rattle.std.specs.Prelude.{◌≡◌, ◌≢◌, ◌<◌, ◌≤◌, �
 ghost use Rattle.mono_order.specs.declared.limits.TheConstants.{VARIABLES, RUN_DEGREE};
 ghost use Rattle.ibp_algebra.specs.FormalSum.{AllKeys, IsCanonical, normal_form, scale};
 ghost use Rattle.mono_order.specs.Term.{IsTerm, multiply_term};
-ghost use Rattle.module_vec.specs.ModuleVector.{SameVector, IsVector, multiply_vector, component_of, lead, lead_coefficient};
-ghost use Rattle.module_vec.specs.Division.{is_over_degree, subtract_multiple, monic_of};
+ghost use Rattle.module_vec.specs.ModuleVector.{SameVector, IsMonic, IsVector, IsMonicVector, IsConstantMultiple, multiply_vector, component_of, lead, lead_coefficient};
+ghost use Rattle.module_vec.specs.Division.{is_over_degree, subtract_multiple};
 
 use crate::fault::VectorFault;
 use ibp_base::{List, NoMemory};
@@ -138,10 +138,24 @@ impl<O: TermOrder> Vector<O> {
         })
     }
 
-    /// This vector divided by the coefficient of its lead.
+    /// The lead of a monic vector.
+    pub fn lead_term(&self) -> Term
+        requires { IsMonic self.now }
+        ensures lead { result ≡ lead self.now }
+        ensures kept { IsVector O.order VARIABLES self.now }
+    {
+        let Some((term, _)) = self.lead() else {
+            unreachable!()
+        };
+        term
+    }
+
+    /// This vector divided by the coefficient of its lead: the one multiple by a constant that is monic.
     pub fn monic(&self, alloc: Global) -> Result<Vector<O>, NoMemory>
         requires { self.now ≢ [] }
-        ensures { IfOk result (λ v. v ≡ monic_of O.order self.now) }
+        ensures monic { IfOk result (λ v. IsMonicVector O.order VARIABLES v) }
+        ensures multiple { IfOk result (λ v. IsConstantMultiple self.now v) }
+        ensures kept { IsVector O.order VARIABLES self.now }
     {
         let terms = self.terms();
         let Some((_, coefficient)) = self.lead() else {

@@ -1,14 +1,15 @@
 -- The loops over the exponents of two power products, place by place.
-use Rattle.std.proofs.Common.{◌≡◌, ℕ, zero, suc, ◌+◌, ◌-◌, ◌<◌, ◌≤◌, Bool, true, false, List, [], ◌∷◌, sum, length, get_or, sym, refl, ◌∙◌, arith, zero-add, add-zero}
+use Rattle.std.proofs.Common.{◌≡◌, ℕ, zero, suc, ◌+◌, ◌-◌, ◌<◌, ◌≤◌, true, false, List, [], ◌∷◌, sum, length, get_or, sym, refl, ◌∙◌, arith, zero-add, add-zero}
 use Rattle.std.specs.Prelude.{nat_eq, nat_le, max}
 use Rattle.std.specs.Cmp.{unsigned_Decides}
 use Rattle.std.proofs.lemmas.Bool.{leb-true, le-leb}
-use Rattle.std.proofs.lemmas.List.Sums.{sum_by-cons}
 use Rattle.std.proofs.lemmas.Grind.{same_number_lists}
+use Rattle.ibp_base.proofs.Tests.{is_false, both_true, and_true}
 use Rattle.ibp_algebra.specs.Exponents.{add_exponents}
 use Rattle.ibp_algebra.proofs.ExponentLaws.{length-padded_sum, get_or-padded_sum}
 use Rattle.mono_order.specs.Term.{divides_exponents, quotient_exponents, lcm_exponents}
-use Rattle.mono_order.proofs.Terms.{both_true, and_true, length-quotient}
+use Rattle.mono_order.proofs.Terms.{length-quotient}
+use Rattle.ibp_algebra.proofs.SumOfExponents.{sum-cons}
 
 -- the places before i have been combined by `op` with those of b, and the others are those of a
 pub record Combined (op : ℕ → ℕ → ℕ) (n : ℕ) (a b xs : List ℕ) (i : ℕ) : Type 0 where
@@ -46,9 +47,6 @@ pub quotient_whole : (n i : ℕ) (a b xs : List ℕ) → length a ≡ n → leng
 quotient_whole n i a b xs p q end h =
     combined_whole ◌-◌ n i a b xs (quotient_exponents a b) end h (length-quotient n b a q p) (get_or-quotient a b)
 
-sum-cons : (x : ℕ) (xs : List ℕ) → sum (x ∷ xs) ≡ x + sum xs
-sum-cons x xs = sum_by-cons (λ y. y) x xs
-
 -- no exponent of a divisor is greater
 pub divides-at : (xs ys : List ℕ) → divides_exponents xs ys ≡ true → (k : ℕ) → get_or xs k 0 ≤ get_or ys k 0
 divides-at [] ys e k = omega arith
@@ -64,10 +62,6 @@ divides_from_places n (x ∷ xs) [] p q h = absurd (omega arith)
 divides_from_places zero (x ∷ xs) (y ∷ ys) p q h = absurd (omega arith)
 divides_from_places (suc n) (x ∷ xs) (y ∷ ys) p q h =
     and_true _ _ (le-leb x y (h 0 (omega arith))) (divides_from_places n xs ys (omega arith) (omega arith) (λ k l. h (suc k) (omega arith)))
-
-is_false : (b : Bool) → ¬ (b ≡ true) → b ≡ false
-is_false true h = absurd (h refl)
-is_false false h = refl
 
 -- a greater exponent at one place is enough not to divide
 pub divides_not : (xs ys : List ℕ) (k : ℕ) → get_or ys k 0 < get_or xs k 0 → divides_exponents xs ys ≡ false

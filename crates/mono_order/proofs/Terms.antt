@@ -1,10 +1,11 @@
 -- Laws of power products and terms: divisibility, quotients and least common multiples.
-use Rattle.std.proofs.Common.{◌≡◌, ◌≢◌, ℕ, zero, suc, ◌+◌, ◌-◌, Bool, true, false, ◌&&◌, length, replicate, List, [], ◌∷◌, sym, refl, ap, subst, ◌∙◌, arith}
+use Rattle.std.proofs.Common.{◌≡◌, ◌≢◌, ℕ, zero, suc, ◌+◌, ◌-◌, Bool, true, length, replicate, List, [], ◌∷◌, sym, refl, ap, subst, ◌∙◌, arith}
 use Rattle.std.specs.Prelude.{nat_eq, nat_le, max}
 use Rattle.std.specs.Bool.{Decides}
 use Rattle.std.specs.Cmp.{unsigned_Decides}
 use Rattle.std.proofs.lemmas.Bool.{leb-true, le-leb}
 use Rattle.std.proofs.Math.Nat.{le-max_left, le-max_right, max-le}
+use Rattle.ibp_base.proofs.Tests.{both_true, and_true}
 use Rattle.ibp_algebra.specs.Exponents.{add_exponents, same_exponents}
 use Rattle.ibp_algebra.proofs.ExponentLaws.{length-padded_sum, padded_sum_assoc, padded_sum_comm}
 use Rattle.ibp_algebra.specs.ExponentOrder.{exponents_decide}
@@ -12,14 +13,6 @@ use Rattle.std.specs.declared.cmp.Ordering.{Ordering}
 use Rattle.std.specs.declared.cmp.Ordering.TheVariants.{Less}
 use Rattle.mono_order.specs.TermOrder.{IsTermOrder}
 use Rattle.mono_order.specs.Term.{Term, same_term, multiply_term, divides, divides_exponents, quotient_exponents, lcm_exponents, lcm_term, IsTerm}
-
-pub both_true : (a b : Bool) → (a && b) ≡ true → (a ≡ true) × (b ≡ true)
-both_true true b e = (refl, e)
-both_true false b e = cc
-
-pub and_true : (a b : Bool) → a ≡ true → b ≡ true → (a && b) ≡ true
-and_true true b e k = k
-and_true false b e k = cc
 
 pub terms_decide : (s t : Term) → Decides (same_term s t) (s ≡ t)
 terms_decide s t = (

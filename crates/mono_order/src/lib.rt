@@ -1,6 +1,7 @@
 //! Monomials, module terms, and their orders with laws.
 #![tactic(auto)]
 
+pub mod laws;
 mod limits;
 mod monomial;
 mod order;

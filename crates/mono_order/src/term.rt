@@ -1,3 +1,6 @@
+ghost use Rattle.std.specs.Prelude.{◌≡◌};
+ghost use Rattle.mono_order.specs.Term.{divides};
+
 use crate::monomial::Monomial;
 use std::marker::Model;
 
@@ -18,4 +21,13 @@ impl Model for Term {
     ghost view = { λ t. (t.component, t.monomial) };
 
     ghost inverse = { λ t. record { component = t.0; monomial = t.1 } };
+}
+
+impl Term {
+    /// Whether the other term has the same component, and no exponent of this term is above its exponent.
+    pub fn divides(&self, other: &Term) -> bool
+        ensures { result ≡ divides self.now other.now }
+    {
+        self.component == other.component && self.monomial.divides(&other.monomial)
+    }
 }

@@ -164,7 +164,7 @@ module _ (family : FamilyData) (books : List Integral) (pieces : List ResultValu
     unworked sector outcome.DegreeOver has = tt
     unworked sector outcome.CandidatesOver has = tt
 
-    is_fault : IsFault family first.piece.sector.0 first.piece.outcome
+    pub is_fault : IsFault family first.piece.sector.0 first.piece.outcome
     is_fault =
         let is = outcome_is first.piece inside_pieces first.is_result in
         record {

@@ -8,3 +8,4 @@ pub mod PickedPlaces
 pub mod Reducing
 pub mod Running
 pub mod TargetRows
+pub mod SomeAnswer

@@ -62,7 +62,7 @@ IsUnworked DegreeOver = Unit {0}
 IsUnworked CandidatesOver = Unit {0}
 
 -- the family of these values
-family_with : (family : FamilyData) → DataWithin family → Family
+unfoldable pub family_with : (family : FamilyData) → DataWithin family → Family
 family_with family within = record {
   name = family.name;
   n = family.n;

@@ -102,7 +102,7 @@ ListsBelow-unmarked marks n places within is h = record {
       (cases_lt k n);
 }
 
-increasing_push : (xs : List ℕ) (x : ℕ) → IsStrictlyIncreasing xs → ((k : ℕ) → Contains xs k → k < x) → IsStrictlyIncreasing (xs ++ x ∷ [])
+pub increasing_push : (xs : List ℕ) (x : ℕ) → IsStrictlyIncreasing xs → ((k : ℕ) → Contains xs k → k < x) → IsStrictlyIncreasing (xs ++ x ∷ [])
 increasing_push xs x h below =
     λ k within.
     let long : length (xs ++ x ∷ []) ≡ length xs + 1 = length-append xs (x ∷ []) in

@@ -12,5 +12,6 @@ pub mod Members
 pub mod OneReplay
 pub mod SectorBooks
 pub mod SideBySide
+pub mod SomeFamily
 pub mod Sound
 pub mod Told

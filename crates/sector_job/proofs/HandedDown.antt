@@ -92,7 +92,7 @@ module _ (sector : ℕ) (candidates : List IntegralSum) where
   none_occurs : (integral : Integral) → OccursInForm candidates [] integral → ⊥
   none_occurs integral (k, found, within, is, h) = omega (arith, within)
 
-  handed : (targets : List Integral) (forms : List IntegralSum) (weights : List (FormalSum ℕ)) → AllAnswers integral_cmp candidates (map target_row targets) forms weights
+  pub handed : (targets : List Integral) (forms : List IntegralSum) (weights : List (FormalSum ℕ)) → AllAnswers integral_cmp candidates (map target_row targets) forms weights
       → (integral : Integral) → Contains (flat_map (integrals_below sector) forms) integral → IsProperSubsector (sector_of integral) sector × OccursInForm candidates targets integral
   handed [] [] [] h integral inside = absurd (in_none integral inside)
   handed [] [] (w ∷ weights) h integral inside = absurd h
@@ -109,7 +109,7 @@ module _ (sector : ℕ) (candidates : List IntegralSum) where
         | inr rest ↦ let found = handed targets forms weights h.1 integral rest in (found.0, later_occurs t targets integral found.1)
       ]
 
-  back : (targets : List Integral) (forms : List IntegralSum) (weights : List (FormalSum ℕ)) → AllAnswers integral_cmp candidates (map target_row targets) forms weights
+  pub back : (targets : List Integral) (forms : List IntegralSum) (weights : List (FormalSum ℕ)) → AllAnswers integral_cmp candidates (map target_row targets) forms weights
       → (integral : Integral) → IsProperSubsector (sector_of integral) sector → OccursInForm candidates targets integral → Contains (flat_map (integrals_below sector) forms) integral
   back [] [] [] h integral proper occurs = absurd (none_occurs integral occurs)
   back [] [] (w ∷ weights) h integral proper occurs = absurd h

@@ -5,3 +5,4 @@ pub mod HandedDown
 pub mod Steps
 pub mod Opening
 pub mod TailsNotZero
+pub mod SomeOutcome

@@ -49,7 +49,7 @@ vector_same v b d last first (suc n) (f ∷ ds) e same =
     let next : first + suc i ≡ suc first + i = omega arith in
     subst (λ k. SamePolynomial (get_or ds i []) (component_of k v)) next (same (suc i) (omega arith))))
 
-module _ (p : Polynomial) (n sector : ℕ) (few : n ≤ 9) (shape : AllKeys (HasVariables n) p) where
+module _ (degree : ℕ) (p : Polynomial) (n sector : ℕ) (few : n ≤ 9) (shape : AllKeys (HasVariables n) p) where
   -- what is known of an element of the reduced basis
   record IsElement (v : ModuleVector) : Type 0 where
     canonical : IsCanonical over_position v
@@ -59,7 +59,7 @@ module _ (p : Polynomial) (n sector : ℕ) (few : n ≤ 9) (shape : AllKeys (Has
   record HasFieldFacts (v : ModuleVector) (f : StrippedField) : Type 0 where
     vector : field_vector f ≡ v
     canonical : IsCanonicalField n f
-    fits : IsField n 250 f.c f.b
+    fits : IsField n degree f.c f.b
     member : IsInSectorModule p sector f
 
   variables_of : (v : ModuleVector) → IsElement v → AllKeys (λ (t : Term). HasVariables n t.1) v
@@ -67,7 +67,7 @@ module _ (p : Polynomial) (n sector : ℕ) (few : n ≤ 9) (shape : AllKeys (Has
       AllKeys-weaker (λ (t : Term). IsInRange 9 (suc n) t × NoneFrom n t.1) (λ (t : Term). HasVariables n t.1)
       (λ t k. HasVariables-from_IsInFirst n t.1 (record { exponents = k.0.exponents; none = k.1 })) v h.terms
 
-  polynomial_of : (v : ModuleVector) → IsElement v → (i : ℕ) (f : Polynomial) → IsComponentOf i v f → IsPolynomial n 250 f
+  polynomial_of : (v : ModuleVector) → IsElement v → (i : ℕ) (f : Polynomial) → IsComponentOf degree i v f → IsPolynomial n degree f
   polynomial_of v h i f k =
       record {
         canonical = k.canonical;
@@ -75,22 +75,22 @@ module _ (p : Polynomial) (n sector : ℕ) (few : n ≤ 9) (shape : AllKeys (Has
         degree_within = k.within;
       }
 
-  field_facts : (v : ModuleVector) (f : StrippedField) → IsElement v → IsFieldOf n v f → HasFieldFacts v f
+  field_facts : (v : ModuleVector) (f : StrippedField) → IsElement v → IsFieldOf degree n v f → HasFieldFacts v f
   field_facts v f h k =
-      let all : All (IsPolynomial n 250) f.c =
-      All-from_get_or (IsPolynomial n 250) f.c [] (λ i below. polynomial_of v h (1 + i) (get_or f.c i []) (k.polynomials i (omega (arith, below, k.count))))
+      let all : All (IsPolynomial n degree) f.c =
+      All-from_get_or (IsPolynomial n degree) f.c [] (λ i below. polynomial_of v h (1 + i) (get_or f.c i []) (k.polynomials i (omega (arith, below, k.count))))
       in
-      let last : IsPolynomial n 250 f.b = polynomial_of v h (1 + n) f.b k.factor in
+      let last : IsPolynomial n degree f.b = polynomial_of v h (1 + n) f.b k.factor in
       let range : AllKeys (IsInRange 9 (suc n)) v = AllKeys-weaker (λ (t : Term). IsInRange 9 (suc n) t × NoneFrom n t.1) (IsInRange 9 (suc n)) (λ t r. r.0) v h.terms in
       let same : SameVector v (vector_of 1 (f.c ++ f.b ∷ [])) =
       SameCoefficients-trans (SameVector-field_of 9 n v range)
       (SameCoefficients-sym (vector_same v f.b (component_of (1 + n) v) k.factor.same 1 n f.c k.count (λ i below. (k.polynomials i below).same)))
       in
-      let nine : (g : Polynomial) → IsPolynomial n 250 g → IsPolynomialIn 9 g =
+      let nine : (g : Polynomial) → IsPolynomial n degree g → IsPolynomialIn 9 g =
       λ g j. AllKeys-weaker (HasVariables n) (λ m. length m ≡ 9) (λ m has. has.nine) g j.variables
       in
       let polynomials : AllByRecursion (IsPolynomialIn 9) (f.c ++ f.b ∷ []) =
-      with_last (IsPolynomialIn 9) f.c (recursion_from_All (IsPolynomialIn 9) f.c (All-weaker (IsPolynomial n 250) (IsPolynomialIn 9) nine f.c all)) f.b (nine f.b last)
+      with_last (IsPolynomialIn 9) f.c (recursion_from_All (IsPolynomialIn 9) f.c (All-weaker (IsPolynomial n degree) (IsPolynomialIn 9) nine f.c all)) f.b (nine f.b last)
       in
       let s = h.syzygy in
       let own : IsSyzygy 9 (sector_factors p n sector) (vector_of 1 (f.c ++ f.b ∷ [])) =
@@ -100,14 +100,14 @@ module _ (p : Polynomial) (n sector : ℕ) (few : n ≤ 9) (shape : AllKeys (Has
         vector = sym (is_normal_form (over_position_laws 9) v (vector_of 1 (f.c ++ f.b ∷ [])) h.canonical same);
         canonical = record {
           count = k.count;
-          polynomials = All-weaker (IsPolynomial n 250) (IsCanonical deg_rev_lex) (λ g j. j.canonical) f.c all;
+          polynomials = All-weaker (IsPolynomial n degree) (IsCanonical deg_rev_lex) (λ g j. j.canonical) f.c all;
           factor = last.canonical;
         };
         fits = record { count = k.count; polynomials = all; factor = last };
         member = (IsInModule-syzygy 9 p f.b (in_sector sector) n f.c k.count polynomials).1 own;
       }
 
-  all_facts : (list : List ModuleVector) (fields : List StrippedField) → AllByRecursion IsElement list → AllZip (IsFieldOf n) list fields → AllZip HasFieldFacts list fields
+  all_facts : (list : List ModuleVector) (fields : List StrippedField) → AllByRecursion IsElement list → AllZip (IsFieldOf degree n) list fields → AllZip HasFieldFacts list fields
   all_facts [] [] h k = tt
   all_facts [] (f ∷ fields) h k = absurd k
   all_facts (v ∷ list) [] h k = absurd k
@@ -126,15 +126,15 @@ module _ (p : Polynomial) (n sector : ℕ) (few : n ≤ 9) (shape : AllKeys (Has
   each_field P h (v ∷ list) [] k = absurd k
   each_field P h (v ∷ list) (f ∷ fields) k = (h v f k.0, each_field P h list fields k.1)
 
-  module _ (list : List ModuleVector) (h : IsReducedBasis over_position 9 (IsSyzygy 9 (sector_factors p n sector)) list) (fields : List StrippedField) (zip : AllZip (IsFieldOf n) list fields) where
+  module _ (list : List ModuleVector) (h : IsReducedBasis over_position 9 (IsSyzygy 9 (sector_factors p n sector)) list) (fields : List StrippedField) (zip : AllZip (IsFieldOf degree n) list fields) where
     facts : AllZip HasFieldFacts list fields
     facts =
         all_facts list fields
         (recursion_from_All IsElement list (All-from_get_or IsElement list [] (λ j below.
         record { canonical = (h.monic j [] below).canonical; terms = element_terms p n sector few shape list h j below; syzygy = h.basis.members j [] below }))) zip
 
-    pub fields_fit : All (λ f. IsField n 250 f.c f.b) fields
-    fields_fit = All-from_recursion (λ f. IsField n 250 f.c f.b) fields (each_field (λ f. IsField n 250 f.c f.b) (λ v f k. k.fits) list fields facts)
+    pub fields_fit : All (λ f. IsField n degree f.c f.b) fields
+    fields_fit = All-from_recursion (λ f. IsField n degree f.c f.b) fields (each_field (λ f. IsField n degree f.c f.b) (λ v f k. k.fits) list fields facts)
 
     pub fields_members : All (IsInSectorModule p sector) fields
     fields_members = All-from_recursion (IsInSectorModule p sector) fields (each_field (IsInSectorModule p sector) (λ v f k. k.member) list fields facts)

@@ -20,7 +20,8 @@ use Rattle.module_vec.proofs.Multiples.{AllKeys-map_keys}
 use Rattle.sector_module.specs.Factors.{at_component}
 use Rattle.sector_module.specs.SectorBasis.{vector_of}
 use Rattle.sector_module.proofs.Syzygies.{IsPolynomialIn, sum_of_products, factor_at, value_at, IsInRange, IsSyzygy}
-use Rattle.ibp_algebra.specs.Field.{unit_exponents, variable, IsInModule, stripped_derivative_from, stripped_derivative}
+use Rattle.ibp_algebra.specs.Field.{unit_exponents, variable, IsInModule}
+use Rattle.ibp_algebra.proofs.ModuleLaws.{stripped_derivative_from, stripped_derivative}
 use Rattle.ibp_algebra.proofs.ModuleLaws.{IsInModule-from_derivative, derivative-IsInModule}
 use Rattle.sector_module.specs.Factors.{factors_from}
 

@@ -15,3 +15,4 @@ pub mod Generating
 pub mod FieldVectors
 pub mod Zips
 pub mod FieldLimits
+pub mod SomeBasis

@@ -5,7 +5,8 @@ use Rattle.std.proofs.lemmas.Bool.Decides.{Decides-like}
 use Rattle.std.proofs.lemmas.List.{take_more, take_all, length-take-le}
 use Rattle.ibp_algebra.specs.FormalSum.{IsCanonical}
 use Rattle.ibp_algebra.specs.Exponents.{same_exponents, deg_rev_lex}
-use Rattle.ibp_algebra.specs.Field.{IsInModule, stripped_derivative_from, stripped_derivative}
+use Rattle.ibp_algebra.specs.Field.{IsInModule}
+use Rattle.ibp_algebra.proofs.ModuleLaws.{stripped_derivative_from, stripped_derivative}
 use Rattle.ibp_algebra.specs.Polynomial.{Polynomial, SamePolynomial, multiply}
 use Rattle.ibp_algebra.proofs.ModuleLaws.{IsInModule-from_derivative, derivative-IsInModule}
 use Rattle.ibp_algebra.proofs.PolynomialLaws.{same_polynomials, SamePolynomial-append, SamePolynomial-multiply}

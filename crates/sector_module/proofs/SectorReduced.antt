@@ -19,7 +19,8 @@ use Rattle.ibp_algebra.proofs.Terms.{AllKeys-canonical}
 use Rattle.mono_order.specs.Term.{Term, same_term, divides}
 use Rattle.mono_order.specs.TermOrder.{over_position}
 use Rattle.mono_order.specs.BlockOrders.{over_position_laws}
-use Rattle.mono_order.proofs.Terms.{terms_decide, and_true, both_true, divides-trans}
+use Rattle.ibp_base.proofs.Tests.{and_true, both_true}
+use Rattle.mono_order.proofs.Terms.{terms_decide, divides-trans}
 use Rattle.mono_order.proofs.Places.{sum-quotient}
 use Rattle.module_vec.specs.ModuleVector.{ModuleVector, lead}
 use Rattle.module_vec.proofs.Components.{component_keys}

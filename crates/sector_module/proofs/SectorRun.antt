@@ -38,7 +38,7 @@ image_contained f l r h =
     let is : get_or (map f l) h.0 (f r) ≡ f r = get_or-map f l h.0 r (f r) h.1 ∙ (λ i. f (h.2 i)) in
     (h.0, omega (arith, h.1, length-map l f), is)
 
-generators_valid : (first : ℕ) (fs : List Polynomial) → AllByRecursion (IsPolynomialIn 9) fs → first + length fs ≤ 256 → AllByRecursion (AllKeys (IsTerm 9)) (factor_generators 9 first fs)
+pub generators_valid : (first : ℕ) (fs : List Polynomial) → AllByRecursion (IsPolynomialIn 9) fs → first + length fs ≤ 256 → AllByRecursion (AllKeys (IsTerm 9)) (factor_generators 9 first fs)
 generators_valid first [] h le = tt
 generators_valid first (f ∷ fs) h le = (
   AllKeys-append (IsTerm 9) (at_component 0 f) (unit_vector 9 first)

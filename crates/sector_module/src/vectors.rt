@@ -75,7 +75,7 @@ pub(crate) fn fields_of(
     vectors: &[Vector<ZeroDominates>],
 ) -> Result<List<StrippedField>, NoMemory>
     requires { n ≤ VARIABLES }
-    ensures { IfOk result (λ fields. AllZip (IsFieldOf n) vectors.now fields) }
+    ensures { IfOk result (λ fields. AllZip (IsFieldOf RUN_DEGREE n) vectors.now fields) }
 {
     let mut fields = Vec::new(alloc);
     for vector in vectors {
@@ -87,7 +87,7 @@ pub(crate) fn fields_of(
 // The field of a vector.
 fn field_of(alloc: Global, n: u8, vector: &Vector<ZeroDominates>) -> Result<StrippedField, NoMemory>
     requires { n ≤ VARIABLES }
-    ensures { IfOk result (λ field. IsFieldOf n vector.now field) }
+    ensures { IfOk result (λ field. IsFieldOf RUN_DEGREE n vector.now field) }
 {
     let mut c = Vec::new(alloc);
     for place in 0..n {
@@ -106,7 +106,7 @@ fn polynomial_at(
     vector: &Vector<ZeroDominates>,
     component: u8,
 ) -> Result<Poly, NoMemory>
-    ensures { IfOk result (λ p. IsComponentOf component vector.now p) }
+    ensures { IfOk result (λ p. IsComponentOf RUN_DEGREE component vector.now p) }
 {
     let terms = vector.component(alloc, component)?;
     let polynomial = Poly::from_terms(alloc, terms.as_slice())?;

@@ -9,17 +9,14 @@ use Rattle.std.specs.Prelude.{slice_get, nat_lt}
 use Rattle.std.proofs.lemmas.Bool.{lt-ltb}
 use Rattle.ibp_algebra.proofs.Degrees.{degree_of-first, products_fit}
 use Rattle.std.proofs.Common.{◌≡◌, ◌≢◌, ℕ, Bool, true, false, Option, Some, None, sum, if◌then◌else◌, append-nil, drop, length-drop, zero, suc, ◌+◌, ◌-◌, ◌*◌, ◌%◌, ◌<◌, ◌≤◌, List, [], ◌∷◌, ◌++◌, length, take, get_or, set, sym, ap, subst, ◌∙◌, refl, append_assoc, arith}
-use Rattle.std.proofs.Math.Nat.{mod-mod}
 use Rattle.std.proofs.lemmas.List.{map_more, take_all, take_more, take-append-drop}
 use Rattle.ibp_field.specs.Arithmetic.{IsCongruent}
+use Rattle.ibp_field.proofs.Congruence.{IsCongruent-reduced}
 use Rattle.ibp_algebra.specs.FormalSum.{FormalSum, scale, map_keys, strike, times_term, AllKeys, IsCanonical}
 use Rattle.ibp_algebra.proofs.SumLaws.{SameCoefficients-trans, SameCoefficients-from_eq, SameCoefficients-append, SameCoefficients-push, SameCoefficients-push_zero}
 use Rattle.ibp_algebra.specs.Exponents.{same_exponents, add_exponents, deg_rev_lex}
 use Rattle.ibp_algebra.specs.Polynomial.{Polynomial, SamePolynomial, degree_of, derivative, multiply}
 use Rattle.ibp_algebra.specs.ExponentOrder.{exponents_decide}
-
-reduced : (c d : ℕ) → c ≡ d % 2147483647 → IsCongruent c d
-reduced c d e = record { same_residue = ap (λ n. n % 2147483647) e ∙ mod-mod d 2147483647 }
 
 same_lists : {f g h k : Polynomial} → f ≡ h → g ≡ k → SamePolynomial h k → SamePolynomial f g
 same_lists p q e = SameCoefficients-trans (SameCoefficients-from_eq p) (SameCoefficients-trans e (SameCoefficients-from_eq (sym q)))
@@ -37,7 +34,7 @@ derived_more place f items new i item m c exponent h is pushed key at value e =
     let number : c ≡ (get_or item.0 place 0 * item.1) % 2147483647 = value ∙ ap (λ n. (n * item.1) % 2147483647) at in
     let moved : new ≡ items ++ (set item.0 place (get_or item.0 place 0 - 1), c) ∷ [] = pushed ∙ ap (λ (k : List ℕ). items ++ (k, c) ∷ []) key in
     same_lists moved (derivative_more place f i item h is)
-    (SameCoefficients-push same_exponents exponents_decide (set item.0 place (get_or item.0 place 0 - 1)) c (get_or item.0 place 0 * item.1) e (reduced _ _ number))
+    (SameCoefficients-push same_exponents exponents_decide (set item.0 place (get_or item.0 place 0 - 1)) c (get_or item.0 place 0 * item.1) e (IsCongruent-reduced _ _ number))
 
 -- a term without the variable adds nothing
 pub derived_skip : (place : ℕ) (f items new : Polynomial) (i : ℕ) (item : List ℕ × ℕ) (exponent : ℕ) → i < length f → item ≡ get_or f i item

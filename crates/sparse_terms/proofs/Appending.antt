@@ -2,8 +2,8 @@
 use Rattle.std.proofs.Common.{◌≡◌, ℕ, ◌+◌, ◌-◌, ◌%◌, Bool, true, false, Option, Some, None, length, take, [], ◌++◌, sym, ap, subst, ◌∙◌}
 use Rattle.std.specs.Bool.{Decides}
 use Rattle.std.specs.List.{slice_get}
-use Rattle.ibp_algebra.specs.FormalSum.{FormalSum, with_term, join_last}
-use Rattle.ibp_algebra.proofs.Joining.{join_last-same, join_last-other, join_last-none}
+use Rattle.ibp_algebra.specs.FormalSum.{FormalSum, with_term}
+use Rattle.sparse_terms.proofs.Joining.{join_last, join_last-same, join_last-other, join_last-none}
 
 module _ {K : Type 0} (same : K → K → Bool) (decides : (a b : K) → Decides (same a b) (a ≡ b)) where
   pub joined_same : (f rest items : FormalSum K) (last : Option (K × ℕ)) (u : K × ℕ) (k : K) (c sum n : ℕ)

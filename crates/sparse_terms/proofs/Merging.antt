@@ -16,11 +16,8 @@ use Rattle.ibp_algebra.proofs.ZeroDivisors.{AllKeys-append}
 use Rattle.ibp_algebra.proofs.Canonical.{AllBelow-trans, Greater-reverse}
 use Rattle.ibp_algebra.proofs.NormalForm.{weighted_sum-with_term, AllKeys-with_term, IsCanonical-with_term}
 use Rattle.ibp_algebra.proofs.SumLaws.{SameCoefficients-trans}
-use Rattle.sparse_terms.proofs.Ties.{ties_decide}
-
-AllKeys-along : {K : Type 0} (P Q : K → Type 0) → ((k : K) → P k → Q k) → (f : FormalSum K) → AllKeys P f → AllKeys Q f
-AllKeys-along P Q along [] h = tt
-AllKeys-along P Q along (t ∷ f) h = (along t.0 h.0, AllKeys-along P Q along f h.1)
+use Rattle.ibp_algebra.proofs.Combinations.{AllKeys-weaker}
+use Rattle.ibp_algebra.proofs.Members.{order_decides}
 
 -- each key of the one is above each key of the other
 abbrev pub AllAbove : {K : Type 0} → (K → K → Ordering) → FormalSum K → FormalSum K → Type 0
@@ -44,7 +41,7 @@ module _ {K : Type 0} (order : K → K → Ordering) (total : IsTotalOrder order
   same = eq_by_cmp order
 
   decides : (a b : K) → Decides (same a b) (a ≡ b)
-  decides = ties_decide order total unique
+  decides = order_decides order total unique
 
   -- a term moves to what is done
   move_term : (factor : ℕ) (whole done left right : FormalSum K) (t : K × ℕ) (rest rest' : FormalSum K) → Merging order factor whole done left right
@@ -56,14 +53,14 @@ module _ {K : Type 0} (order : K → K → Ordering) (total : IsTotalOrder order
       let term_below = λ (k : K). λ (above : order k t.0 ≡ Greater). AllKeys-with_term (λ x. order k x ≡ Greater) t [] above tt in
       record {
         canonical = IsCanonical-append order done (with_term t []) h.canonical (IsCanonical-with_term order t [] tt tt)
-            (AllKeys-along (λ k. order k t.0 ≡ Greater) (λ k. AllBelow order k (with_term t [])) term_below done over);
+            (AllKeys-weaker (λ k. order k t.0 ≡ Greater) (λ k. AllBelow order k (with_term t [])) term_below done over);
         left_canonical = p;
         right_canonical = q;
         above_left = AllKeys-append (λ k. AllBelow order k rest) done (with_term t [])
-            (AllKeys-along (λ k. order k t.0 ≡ Greater) (λ k. AllBelow order k rest) (λ k above. AllBelow-trans order total k t.0 rest above below) done over)
+            (AllKeys-weaker (λ k. order k t.0 ≡ Greater) (λ k. AllBelow order k rest) (λ k above. AllBelow-trans order total k t.0 rest above below) done over)
             (AllKeys-with_term (λ k. AllBelow order k rest) t [] below tt);
         above_right = AllKeys-append (λ k. AllBelow order k rest') done (with_term t [])
-            (AllKeys-along (λ k. order k t.0 ≡ Greater) (λ k. AllBelow order k rest') (λ k above. AllBelow-trans order total k t.0 rest' above below') done over)
+            (AllKeys-weaker (λ k. order k t.0 ≡ Greater) (λ k. AllBelow order k rest') (λ k above. AllBelow-trans order total k t.0 rest' above below') done over)
             (AllKeys-with_term (λ k. AllBelow order k rest') t [] below' tt);
         sum = SameCoefficients-trans
             (SameCoefficients-from_weights same decides _ (done ++ (left ++ scale factor right)) (λ w.
@@ -87,7 +84,7 @@ module _ {K : Type 0} (order : K → K → Ordering) (total : IsTotalOrder order
       }
 
   first_above : (done : FormalSum K) (t : K × ℕ) (f : FormalSum K) → AllAbove order done (t ∷ f) → AllKeys (λ k. order k t.0 ≡ Greater) done
-  first_above done t f h = AllKeys-along (λ k. AllBelow order k (t ∷ f)) (λ k. order k t.0 ≡ Greater) (λ k below. below.0) done h
+  first_above done t f h = AllKeys-weaker (λ k. AllBelow order k (t ∷ f)) (λ k. order k t.0 ≡ Greater) (λ k below. below.0) done h
 
   -- the first term on the left, where it is above what is left on the right
   take_left : (factor : ℕ) (whole done : FormalSum K) (t : K × ℕ) (left right : FormalSum K) → AllBelow order t.0 right

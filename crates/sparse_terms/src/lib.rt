@@ -2,12 +2,15 @@
 //! keys. Polynomials, vectors and rows are such lists, and differ in their keys alone.
 #![tactic(auto)]
 
-ghost use Rattle.std.specs.Prelude.{◌≡◌, [], ◌++◌, IfOk, IsPermutation};
+ghost use Rattle.std.specs.Prelude.{◌≡◌, ◌≢◌, [], ◌∷◌, ◌++◌, IfOk, IsPermutation};
 ghost use Rattle.std.specs.declared.cmp.Ordering.{Ordering};
+ghost use Rattle.std.specs.declared.cmp.Ordering.TheVariants.{Less};
 ghost use Rattle.std.specs.Ordering.{eq_by_cmp};
 ghost use Rattle.std.specs.Cmp.{IsTotalOrder};
 ghost use Rattle.std.specs.FinMap.{IsAntisymmetric};
-ghost use Rattle.ibp_algebra.specs.FormalSum.{SameCoefficients, IsCanonical, Descends, scale, with_term, join_last};
+ghost use Rattle.ibp_algebra.specs.FormalSum.{SameCoefficients, AllKeys, IsCanonical, Descends, scale, with_term, normal_form};
+
+pub mod laws;
 
 use ibp_field::Residue;
 use std::alloc::{AllocError, Global};
@@ -118,13 +121,15 @@ fn push_term<K: Copy>(
     Ok(())
 }
 
-// Adds a term whose key is at most the last one.
+// Adds a term. No key is below that of the term.
 fn append_term<K: Copy, O: KeyOrder<K>>(
     terms: &mut Vec<(K, Residue)>,
     key: K,
     value: Residue,
 ) -> Result<(), AllocError>
-    ensures { IfOk result (λ _. terms.new.items ≡ join_last (eq_by_cmp O.order) terms.old.items (key, value)) }
+    requires canonical { IsCanonical O.order terms.old.items }
+    requires last { AllKeys (λ k. O.order k key ≢ Less) terms.old.items }
+    ensures { IfOk result (λ _. terms.new.items ≡ normal_form O.order (terms.old.items ++ (key, value) ∷ [])) }
 {
     if let Some((last, sum)) = terms.last().copied() {
         if O::compare(&last, &key).is_eq() {

@@ -43,26 +43,26 @@ reduced c =
     run_reduced family.baikov family.n c.args.sector.0 family.limits.few_variables family.limits.polynomial.variables c.in_ok-run.run'.elements c.in_ok-reduced.reduced groebner
     c.in_ok-reduced.ensures.reduced
 
-zipped : (c : goal.After-drop-generators-2) → AllZip (IsFieldOf c.args.family.now.n) c.in_ok-reduced.reduced c.in_ok-fields.fields
-zipped c = subst (λ (l : List ModuleVector). AllZip (IsFieldOf c.args.family.now.n) l c.in_ok-fields.fields) c.as_slice.ensures c.in_ok-fields.ensures
+zipped : (c : goal.After-drop-generators-2) → AllZip (IsFieldOf RUN_DEGREE c.args.family.now.n) c.in_ok-reduced.reduced c.in_ok-fields.fields
+zipped c = subst (λ (l : List ModuleVector). AllZip (IsFieldOf RUN_DEGREE c.args.family.now.n) l c.in_ok-fields.fields) c.as_slice.ensures c.in_ok-fields.ensures
 
 pub returns-clause-basis : goal.returns-clause-basis
 returns-clause-basis c =
     let family = c.args.family.now in
     subst (IsSectorBasis family.baikov family.n c.args.sector.0) (sym c.new.ensures.fields)
-    (fields_basis family.baikov family.n c.args.sector.0 family.limits.few_variables family.limits.polynomial.variables c.in_ok-reduced.reduced (reduced c) c.in_ok-fields.fields (zipped c))
+    (fields_basis RUN_DEGREE family.baikov family.n c.args.sector.0 family.limits.few_variables family.limits.polynomial.variables c.in_ok-reduced.reduced (reduced c) c.in_ok-fields.fields (zipped c))
 
 pub returns-clause-shape : goal.returns-clause-shape
 returns-clause-shape c =
     let family = c.args.family.now in
     All-same (λ (f : StrippedField). IsField family.n RUN_DEGREE f.c f.b) c.new.result.fields c.in_ok-fields.fields c.new.ensures.fields
-    (fields_fit family.baikov family.n c.args.sector.0 family.limits.few_variables family.limits.polynomial.variables c.in_ok-reduced.reduced (reduced c) c.in_ok-fields.fields (zipped c))
+    (fields_fit RUN_DEGREE family.baikov family.n c.args.sector.0 family.limits.few_variables family.limits.polynomial.variables c.in_ok-reduced.reduced (reduced c) c.in_ok-fields.fields (zipped c))
 
 pub returns-clause-members : goal.returns-clause-members
 returns-clause-members c =
     let family = c.args.family.now in
     All-same (IsInSectorModule family.baikov c.args.sector.0) c.new.result.fields c.in_ok-fields.fields c.new.ensures.fields
-    (fields_members family.baikov family.n c.args.sector.0 family.limits.few_variables family.limits.polynomial.variables c.in_ok-reduced.reduced (reduced c) c.in_ok-fields.fields (zipped c))
+    (fields_members RUN_DEGREE family.baikov family.n c.args.sector.0 family.limits.few_variables family.limits.polynomial.variables c.in_ok-reduced.reduced (reduced c) c.in_ok-fields.fields (zipped c))
 
 pub returns-clause-few : goal.returns-clause-few
 returns-clause-few c =
@@ -74,7 +74,7 @@ returns-clause-few c =
       counts.1,
       ap (length {A = ModuleVector}) (generators_are c),
       length-sector_generators family.baikov family.n c.args.sector.0,
-      length-zip (IsFieldOf family.n) c.in_ok-reduced.reduced c.in_ok-fields.fields (zipped c),
+      length-zip (IsFieldOf RUN_DEGREE family.n) c.in_ok-reduced.reduced c.in_ok-fields.fields (zipped c),
       ap (length {A = StrippedField}) c.new.ensures.fields,
       c.in_ok-reduced.ensures.short,
     )

@@ -1,6 +1,6 @@
 use Rattle.std.proofs.Common.{take}
 use Rattle.ibp_algebra.specs.Polynomial.{SamePolynomial}
-use Rattle.ibp_algebra.specs.Field.{stripped_derivative}
+use Rattle.ibp_algebra.proofs.ModuleLaws.{stripped_derivative}
 use Rattle.family.specs.Conditions.{in_sector}
 use Rattle.sector_module.proofs.membership.is_member.Given as goal
 

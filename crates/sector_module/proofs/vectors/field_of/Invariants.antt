@@ -1,3 +1,4 @@
+use Rattle.mono_order.specs.declared.limits.TheConstants.{RUN_DEGREE}
 use Rattle.std.proofs.Common.{◌≡◌, ◌+◌, ◌<◌, ℕ, length, []}
 use Rattle.std.specs.Prelude.{slice_index_or}
 use Rattle.sector_module.specs.FieldsOf.{IsComponentOf}
@@ -7,5 +8,5 @@ abbrev pub invariant-loop-place : goal.invariant-loop-place
 invariant-loop-place l =
     record {
       count : length l.c.items ≡ l.place;
-      polynomials : (i : ℕ) → i < l.place → IsComponentOf (1 + i) l.vector (slice_index_or l.c.items i []);
+      polynomials : (i : ℕ) → i < l.place → IsComponentOf RUN_DEGREE (1 + i) l.vector (slice_index_or l.c.items i []);
     }

@@ -1,7 +1,7 @@
 use Rattle.std.specs.Ordering.{eq_by_cmp}
 use Rattle.std.proofs.lemmas.Result.{IfOk-weaker}
 use Rattle.ibp_algebra.proofs.SumLaws.{SameCoefficients-retest}
-use Rattle.sparse_terms.proofs.Ties.{ties_decide}
+use Rattle.ibp_algebra.proofs.Members.{order_decides}
 use Rattle.ibp_algebra.specs.Exponents.{same_exponents, deg_rev_lex}
 use Rattle.ibp_algebra.specs.ExponentOrder.{exponents_decide, deg_rev_lex_total, deg_rev_lex_unique}
 use Rattle.sparse_poly.proofs.terms.sum_of.Goals as goal
@@ -9,5 +9,5 @@ use Rattle.sparse_poly.proofs.terms.sum_of.Goals as goal
 pub returns-clause-sum : goal.returns-clause-sum
 returns-clause-sum c =
     IfOk-weaker c.sum_of_terms.result _ _
-    (λ v h. SameCoefficients-retest (eq_by_cmp deg_rev_lex) same_exponents (ties_decide deg_rev_lex deg_rev_lex_total deg_rev_lex_unique) exponents_decide h)
+    (λ v h. SameCoefficients-retest (eq_by_cmp deg_rev_lex) same_exponents (order_decides deg_rev_lex deg_rev_lex_total deg_rev_lex_unique) exponents_decide h)
     c.sum_of_terms.ensures.sum

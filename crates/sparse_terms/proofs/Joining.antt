@@ -1,5 +1,5 @@
--- A list of terms in descending order becomes canonical where each term joins the last one of its key.
-use Rattle.std.proofs.Common.{◌≡◌, ◌≢◌, ℕ, zero, suc, ◌+◌, ◌-◌, ◌*◌, ◌%◌, ◌<◌, Option, Some, None, length, take, get_or, Bool, true, false, if◌then◌else◌, [], ◌∷◌, ◌++◌, fold, sym, refl, ap, subst, ◌∙◌, arith}
+-- A term that joins the last one of its key, or is put behind it, gives the normal form of the sum.
+use Rattle.std.proofs.Common.{◌≡◌, ◌≢◌, ℕ, zero, suc, ◌+◌, ◌-◌, ◌*◌, ◌%◌, ◌<◌, Option, Some, None, length, take, get_or, Bool, true, false, if◌then◌else◌, [], ◌∷◌, ◌++◌, sym, refl, ap, subst, ◌∙◌, arith}
 use Rattle.std.specs.declared.cmp.Ordering.{Ordering}
 use Rattle.std.specs.declared.cmp.Ordering.TheVariants.{Less, Equal, Greater}
 use Rattle.std.specs.Cmp.{IsTotalOrder}
@@ -10,11 +10,19 @@ use Rattle.std.proofs.Math.Nat.{mod-mod}
 use Rattle.std.proofs.lemmas.Option.{slice_get_within, slice_get-get_or}
 use Rattle.std.proofs.lemmas.Bool.Decides.{not_from_Decides}
 use Rattle.ibp_field.specs.Arithmetic.{IsCongruent}
-use Rattle.ibp_algebra.specs.FormalSum.{FormalSum, weighted_sum, SameCoefficients, AllKeys, IsCanonical, Descends, with_term, join_last}
+use Rattle.ibp_algebra.specs.FormalSum.{FormalSum, weighted_sum, AllKeys, IsCanonical, with_term, normal_form}
 use Rattle.ibp_field.proofs.Congruence.{IsCongruent-refl, IsCongruent-trans, IsCongruent-add, IsCongruent-from_eq}
-use Rattle.ibp_algebra.proofs.Weights.{SameCoefficients-from_weights}
-use Rattle.ibp_algebra.proofs.Canonical.{Greater-trans}
-use Rattle.ibp_algebra.proofs.NormalForm.{weighted_sum-with_term, AllKeys-with_term, IsCanonical-with_term}
+use Rattle.ibp_algebra.proofs.Weights.{weighted_sum-append, SameCoefficients-from_weights}
+use Rattle.ibp_algebra.proofs.SumLaws.{SameCoefficients-sym, SameCoefficients-trans}
+use Rattle.ibp_algebra.proofs.Canonical.{Greater-trans, same_canonical}
+use Rattle.ibp_algebra.proofs.NormalForm.{weighted_sum-with_term, AllKeys-with_term, IsCanonical-with_term, IsCanonical-normal_form, SameCoefficients-normal_form}
+
+-- a term put at the end, joined with the last one where that has the same key
+abbrev pub join_last : {K : Type 0} → (K → K → Bool) → FormalSum K → K × ℕ → FormalSum K
+join_last same [] term = with_term term []
+join_last same (first ∷ []) term =
+    if same first.0 term.0 then with_term (first.0, first.1 + term.1) [] else (first ∷ with_term term [])
+join_last same (first ∷ second ∷ others) term = first ∷ join_last same (second ∷ others) term
 
 module _ {K : Type 0} (same : K → K → Bool) (decides : (a b : K) → Decides (same a b) (a ≡ b)) where
   last_sum : (w : K → ℕ) (u t : K × ℕ) (b : Bool) → same u.0 t.0 ≡ b
@@ -70,34 +78,14 @@ module _ {K : Type 0} (same : K → K → Bool) (decides : (a b : K) → Decides
     IsCanonical-join_last (u ∷ v ∷ f) t h k =
         (h.0, h.1, AllKeys-join_last _ (v ∷ f) t h.2 (above_next u.0 v.0 t.0 h.2.0 k.1.0), IsCanonical-join_last (v ∷ f) t h.3 k.1)
 
-    AllKeys-both : (P Q R : K → Type 0) → ((k : K) → P k → Q k → R k) → (f : FormalSum K) → AllKeys P f → AllKeys Q f → AllKeys R f
-    AllKeys-both P Q R h [] p q = tt
-    AllKeys-both P Q R h (t ∷ f) p q = (h t.0 p.0 q.0, AllKeys-both P Q R h f p.1 q.1)
-
-    joined_canonical : (f g : FormalSum K) → IsCanonical order f → Descends order g → AllKeys (λ r. AllKeys (λ k. order k r ≢ Less) f) g
-        → IsCanonical order (fold (join_last same) f g)
-    joined_canonical f [] h down over = h
-    joined_canonical f (t ∷ g) h down over =
-        joined_canonical (join_last same f t) g (IsCanonical-join_last f t h over.0) down.1
-        (AllKeys-both _ _ _ (λ r p q. AllKeys-join_last (λ k. order k r ≢ Less) f t q p) g down.0 over.1)
-
-    over_nothing : (g : FormalSum K) → AllKeys (λ r. AllKeys (λ k. order k r ≢ Less) []) g
-    over_nothing [] = tt
-    over_nothing (t ∷ g) = (tt, over_nothing g)
-
-    -- descending terms, joined, are canonical
-    pub IsCanonical-joined : (g : FormalSum K) → Descends order g → IsCanonical order (fold (join_last same) [] g)
-    IsCanonical-joined g down = joined_canonical [] g tt down (over_nothing g)
-
-  joined_sum : (w : K → ℕ) (f g : FormalSum K) → IsCongruent (weighted_sum w (fold (join_last same) f g)) (weighted_sum w f + weighted_sum w g)
-  joined_sum w f [] = IsCongruent-from_eq (omega arith)
-  joined_sum w f (t ∷ g) =
-      IsCongruent-trans (joined_sum w (join_last same f t) g)
-      (IsCongruent-trans (IsCongruent-add (weighted_sum-join_last w f t) (IsCongruent-refl (weighted_sum w g))) (IsCongruent-from_eq (omega arith)))
-
-  -- and have the same coefficients
-  pub SameCoefficients-joined : (g : FormalSum K) → SameCoefficients same (fold (join_last same) [] g) g
-  SameCoefficients-joined g = SameCoefficients-from_weights same decides _ g (λ w. IsCongruent-trans (joined_sum w [] g) (IsCongruent-from_eq {a = 0 + weighted_sum w g} {b = weighted_sum w g} (omega arith)))
+    -- where no key is below that of the term
+    pub join_last-normal : (f : FormalSum K) (t : K × ℕ) → IsCanonical order f → AllKeys (λ k. order k t.0 ≢ Less) f → join_last same f t ≡ normal_form order (f ++ t ∷ [])
+    join_last-normal f t h k =
+        same_canonical order total same decides unique (join_last same f t) (normal_form order (f ++ t ∷ [])) (IsCanonical-join_last f t h k) (IsCanonical-normal_form order total unique (f ++ t ∷ []))
+        (SameCoefficients-trans
+        (SameCoefficients-from_weights same decides _ _ (λ w.
+        IsCongruent-trans (weighted_sum-join_last w f t) (IsCongruent-from_eq (omega (arith, weighted_sum-append w f (t ∷ []))))))
+        (SameCoefficients-sym (SameCoefficients-normal_form order total unique same decides (f ++ t ∷ []))))
 
 -- ---- by the last term of a list
 

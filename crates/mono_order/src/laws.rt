@@ -1,0 +1,10 @@
+//! Laws of monomials. Each function has an empty body.
+ghost use Rattle.std.specs.Prelude.{◌≡◌};
+ghost use Rattle.mono_order.specs.declared.limits.TheConstants.{VARIABLES, MONO_DEGREE, RUN_DEGREE};
+
+/// The limits in numbers.
+pub fn limits()
+    ensures variables { VARIABLES ≡ 9 }
+    ensures degree { MONO_DEGREE ≡ 300 }
+    ensures degree_of_a_run { RUN_DEGREE ≡ 250 }
+{}
