@@ -11,24 +11,45 @@ use Rattle.sparse_poly.specs.Equality.{one_polynomial, one_polynomial-Decides}
 use Rattle.sector_lattice.specs.declared.sector.Sector.{Sector}
 use Rattle.sector_lattice.specs.Sectors.{integral_cmp}
 use Rattle.sector_lattice.specs.Orders.{integrals_decide}
+use Rattle.family.specs.declared.family.Family.{Family}
 use Rattle.family.specs.declared.parts.Bounds.{Bounds}
 use Rattle.family.specs.declared.parts.Budget.{Budget}
 use Rattle.family.specs.declared.parts.Field.{Field}
 use Rattle.family.specs.declared.parts.Probe.{Probe}
+use Rattle.family.specs.FamilyView.{family_view}
+
+abbrev same_sector : Sector → Sector → Bool
+same_sector a b = nat_eq a.0 b.0
+
+abbrev same_bounds : Bounds → Bounds → Bool
+same_bounds a b = nat_eq a.dots_cap b.dots_cap && (nat_eq a.rank_cap b.rank_cap && (nat_eq a.extra_dots b.extra_dots && nat_eq a.extra_rank b.extra_rank))
+
+abbrev same_budget : Budget → Budget → Bool
+same_budget a b = nat_eq a.pairs b.pairs && nat_eq a.candidates b.candidates
+
+abbrev same_probe : Probe → Probe → Bool
+same_probe a b = (pointwise one_polynomial a.field.a b.field.a && one_polynomial a.field.b b.field.b) && eq_by_cmp integral_cmp a.seed b.seed
+
+-- what `==` computes of two families
+abbrev pub same_family : Family → Family → Bool
+same_family f g =
+    pointwise nat_eq f.name g.name && (nat_eq f.n g.n && (nat_eq f.gamma g.gamma && (one_polynomial f.baikov g.baikov
+    && (pointwise (eq_by_cmp integral_cmp) f.targets g.targets && (pointwise same_sector f.zero g.zero
+    && (same_bounds f.bounds g.bounds && (same_budget f.budget g.budget && option_eq same_probe f.probe g.probe)))))))
 
 pub decided_by : (r b : Bool) (P : Type 0) → r ≡ b → Decides b P → Decides r P
 decided_by r b P same h = (λ yes. h.0 (sym same ∙ yes), λ p. same ∙ h.1 p)
 
-pub sectors_decide : (a b : Sector) → Decides (nat_eq a.0 b.0) (a ≡ b)
+sectors_decide : (a b : Sector) → Decides (same_sector a b) (a ≡ b)
 sectors_decide a b = Decides-like _ (λ e i. record { 0 = e i }) (λ e i. (e i).0) (unsigned_Decides a.0 b.0)
 
-pub bounds_decide : (a b : Bounds) → Decides (nat_eq a.dots_cap b.dots_cap && (nat_eq a.rank_cap b.rank_cap && (nat_eq a.extra_dots b.extra_dots && nat_eq a.extra_rank b.extra_rank))) (a ≡ b)
+bounds_decide : (a b : Bounds) → Decides (same_bounds a b) (a ≡ b)
 bounds_decide a b =
     Decides-like _ (λ e i. record { dots_cap = e.0 i; rank_cap = e.1.0 i; extra_dots = e.1.1.0 i; extra_rank = e.1.1.1 i })
     (λ e. ((λ i. (e i).dots_cap), ((λ i. (e i).rank_cap), ((λ i. (e i).extra_dots), (λ i. (e i).extra_rank)))))
     (Decides-and _ _ (unsigned_Decides a.dots_cap b.dots_cap) (Decides-and _ _ (unsigned_Decides a.rank_cap b.rank_cap) (Decides-and _ _ (unsigned_Decides a.extra_dots b.extra_dots) (unsigned_Decides a.extra_rank b.extra_rank))))
 
-pub budget_decides : (a b : Budget) → Decides (nat_eq a.pairs b.pairs && nat_eq a.candidates b.candidates) (a ≡ b)
+budget_decides : (a b : Budget) → Decides (same_budget a b) (a ≡ b)
 budget_decides a b =
     Decides-like _ (λ e i. record { pairs = e.0 i; candidates = e.1 i }) (λ e. ((λ i. (e i).pairs), (λ i. (e i).candidates)))
     (Decides-and _ _ (unsigned_Decides a.pairs b.pairs) (unsigned_Decides a.candidates b.candidates))
@@ -38,7 +59,7 @@ fields_decide a b =
     Decides-like _ (λ e i. record { a = e.0 i; b = e.1 i }) (λ e. ((λ i. (e i).a), (λ i. (e i).b)))
     (Decides-and _ _ (pointwise_decides one_polynomial-Decides a.a b.a) (one_polynomial-Decides a.b b.b))
 
-pub probes_decide : (a b : Probe) → Decides ((pointwise one_polynomial a.field.a b.field.a && one_polynomial a.field.b b.field.b) && eq_by_cmp integral_cmp a.seed b.seed) (a ≡ b)
+probes_decide : (a b : Probe) → Decides (same_probe a b) (a ≡ b)
 probes_decide a b =
     Decides-like _ (λ e i. record { field = e.0 i; seed = e.1 i }) (λ e. ((λ i. (e i).field), (λ i. (e i).seed)))
     (Decides-and _ _ (fields_decide a.field b.field) (integrals_decide a.seed b.seed))
@@ -46,8 +67,22 @@ probes_decide a b =
 same_some : {X : Type 0} (x y : X) → ◌≡◌ {A = Option X} (Some x) (Some y) → x ≡ y
 same_some x y e = cc
 
-pub options_decide : {X : Type 0} (test : X → X → Bool) → ((x y : X) → Decides (test x y) (x ≡ y)) → (a b : Option X) → Decides (option_eq test a b) (a ≡ b)
+options_decide : {X : Type 0} (test : X → X → Bool) → ((x y : X) → Decides (test x y) (x ≡ y)) → (a b : Option X) → Decides (option_eq test a b) (a ≡ b)
 options_decide test each None None = (λ e. refl, λ e. refl)
 options_decide test each None (Some y) = (λ e. absurd (cc), λ e. absurd (cc))
 options_decide test each (Some x) None = (λ e. absurd (cc), λ e. absurd (cc))
 options_decide test each (Some x) (Some y) = (λ e. ap Some ((each x y).0 e), λ e. (each x y).1 (same_some x y e))
+
+pub families_decide : (f g : Family) → Decides (same_family f g) (family_view f ≡ family_view g)
+families_decide f g =
+    Decides-like _
+    (λ e i. record { name = e.0 i; n = e.1.0 i; gamma = e.1.1.0 i; baikov = e.1.1.1.0 i; targets = e.1.1.1.1.0 i; zero = e.1.1.1.1.1.0 i; bounds = e.1.1.1.1.1.1.0 i; budget = e.1.1.1.1.1.1.1.0 i; probe = e.1.1.1.1.1.1.1.1 i })
+    (λ e. ((λ i. (e i).name), ((λ i. (e i).n), ((λ i. (e i).gamma), ((λ i. (e i).baikov), ((λ i. (e i).targets), ((λ i. (e i).zero), ((λ i. (e i).bounds), ((λ i. (e i).budget), (λ i. (e i).probe))))))))))
+    (Decides-and _ _ (pointwise_decides unsigned_Decides f.name g.name)
+    (Decides-and _ _ (unsigned_Decides f.n g.n)
+    (Decides-and _ _ (unsigned_Decides f.gamma g.gamma)
+    (Decides-and _ _ (one_polynomial-Decides f.baikov g.baikov)
+    (Decides-and _ _ (pointwise_decides integrals_decide f.targets g.targets)
+    (Decides-and _ _ (pointwise_decides sectors_decide f.zero g.zero)
+    (Decides-and _ _ (bounds_decide f.bounds g.bounds)
+    (Decides-and _ _ (budget_decides f.budget g.budget) (options_decide same_probe probes_decide f.probe g.probe)))))))))

@@ -1,6 +1,7 @@
 pub mod Name
 pub mod Shapes
 pub mod Limits
+pub mod LimitsProp
 pub mod Conditions
 pub mod FamilyData
 pub mod Within

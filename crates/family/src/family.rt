@@ -1,6 +1,7 @@
 //! A family.
 
-ghost use Rattle.family.specs.Limits.{FamilyLimits, limits-prop};
+ghost use Rattle.family.specs.Limits.{FamilyLimits};
+ghost use Rattle.family.specs.LimitsProp.{limits-prop};
 
 use crate::name::Name;
 use crate::parts::{Bounds, Budget, Probe};

@@ -16,6 +16,3 @@ pub use limits::{
 };
 pub use name::Name;
 pub use parts::{Bounds, Budget, Field, Probe, StrippedField};
-
-#[cfg(test)]
-mod tests;

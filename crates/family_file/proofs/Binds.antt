@@ -1,14 +1,12 @@
 -- What a step that succeeds tells of the steps before it.
-use Rattle.std.proofs.Common.{◌≡◌, ℕ, ◌≤◌, Bool, true, false, cond, ◌&&◌, List, [], ◌∷◌, length, Result, Ok, Err, refl, sym, ap, ◌∙◌, subst, arith, suc, zero}
+use Rattle.std.proofs.Common.{◌≡◌, ℕ, ◌≤◌, Bool, true, false, cond, ◌&&◌, List, [], ◌∷◌, length, Result, Ok, Err, refl, sym, ap, ◌∙◌, subst, arith, suc}
 use Rattle.std.specs.Prelude.{ℤ, pos, negsuc, nat_le, int_le}
-use Rattle.std.specs.List.{All, AllByRecursion}
+use Rattle.std.specs.List.{AllByRecursion}
 use Rattle.std.proofs.lemmas.Bool.{leb-true}
+use Rattle.ibp_base.proofs.Tests.{same_ok, both_true}
 use Rattle.family_file.specs.declared.fault.FileFault.{FileFault}
 use Rattle.family_file.specs.Reading.{◌>>=◌, collect}
 use Rattle.family_file.specs.Numbers.{natural, whole}
-
-same_ok : {A E : Type 0} (x y : A) → ◌≡◌ {A = Result A E} (Ok x) (Ok y) → x ≡ y
-same_ok x y h = cc
 
 -- the values between the steps
 pub bind_ok : {A B : Type 0} (r : Result A FileFault) (f : A → Result B FileFault) (b : B) → (r >>= f) ≡ Ok b → (a : A) × ((r ≡ Ok a) × (f a ≡ Ok b))
@@ -28,21 +26,10 @@ pub where_ok : {A E : Type 0} (test : Bool) (r : Result A E) (fault : E) (y : A)
 where_ok true r fault y h = (refl, h)
 where_ok false r fault y h = absurd (cc)
 
-pub ok_is : {A E : Type 0} (x y : A) → ◌≡◌ {A = Result A E} (Ok x) (Ok y) → x ≡ y
-ok_is {A} {E} x y h = same_ok {A = A} {E = E} x y h
-
-both : (a b : Bool) → (a && b) ≡ true → (a ≡ true) × (b ≡ true)
-both true true h = (refl, refl)
-both true false h = absurd (cc)
-both false b h = absurd (cc)
-
-pub both_are : (a b : Bool) → (a && b) ≡ true → (a ≡ true) × (b ≡ true)
-both_are = both
-
 pub natural_within : (fault : FileFault) (low high : ℕ) (z : ℤ) (n : ℕ) → natural fault low high z ≡ Ok n → (low ≤ n) × (n ≤ high)
 natural_within fault low high (pos m) n h =
     let found = if_ok (nat_le low m && nat_le m high) m n fault h in
-    let sides = both (nat_le low m) (nat_le m high) found.0 in
+    let sides = both_true (nat_le low m) (nat_le m high) found.0 in
     let from : low ≤ m = leb-true low m sides.0 in
     let upto : m ≤ high = leb-true m high sides.1 in
     let same : m ≡ n = found.1 in
@@ -52,29 +39,24 @@ natural_within fault low high (negsuc m) n h = absurd (cc)
 pub whole_within : (fault : FileFault) (low high z y : ℤ) → whole fault low high z ≡ Ok y → (int_le low y ≡ true) × (int_le y high ≡ true)
 whole_within fault low high z y h =
     let found = if_ok (int_le low z && int_le z high) z y fault h in
-    let sides = both (int_le low z) (int_le z high) found.0 in
+    let sides = both_true (int_le low z) (int_le z high) found.0 in
     (ap (int_le low) (sym found.1) ∙ sides.0, ap (λ x. int_le x high) (sym found.1) ∙ sides.1)
 
 -- what holds of whatever is read from an element holds of each value, and there are as many values
 pub collect_each : {A B : Type 0} (P : B → Type 0) (read : A → Result B FileFault) → ((a : A) (b : B) → read a ≡ Ok b → P b) → (xs : List A) (ys : List B) → collect read xs ≡ Ok ys → AllByRecursion P ys
 unfolding collect
-collect_each P read each [] ys h = subst (AllByRecursion P) (ok_is [] ys h) tt
+collect_each P read each [] ys h = subst (AllByRecursion P) (same_ok [] ys h) tt
 collect_each {A} {B} P read each (x ∷ xs) ys h =
     let first = bind_ok (read x) _ ys h in
     let second = bind_ok (collect read xs) _ ys first.1.1 in
-    let joined : first.0 ∷ second.0 ≡ ys = ok_is _ _ second.1.1 in
+    let joined : first.0 ∷ second.0 ≡ ys = same_ok _ _ second.1.1 in
     subst (AllByRecursion P) joined (each x first.0 first.1.0, collect_each P read each xs second.0 second.1.0)
 
 pub collect_length : {A B : Type 0} (read : A → Result B FileFault) → (xs : List A) (ys : List B) → collect read xs ≡ Ok ys → length ys ≡ length xs
 unfolding collect
-collect_length read [] ys h = ap length (sym (ok_is [] ys h))
+collect_length read [] ys h = ap length (sym (same_ok [] ys h))
 collect_length read (x ∷ xs) ys h =
     let first = bind_ok (read x) _ ys h in
     let second = bind_ok (collect read xs) _ ys first.1.1 in
-    let joined : first.0 ∷ second.0 ≡ ys = ok_is _ _ second.1.1 in
+    let joined : first.0 ∷ second.0 ≡ ys = same_ok _ _ second.1.1 in
     ap length (sym joined) ∙ ap suc (collect_length read xs second.0 second.1.0)
-
-pub All-each : {X : Type 0} (P : X → Type 0) (xs : List X) → AllByRecursion P xs → All P xs
-All-each P [] h k d below = absurd (omega arith)
-All-each P (x ∷ xs) h zero d below = h.0
-All-each P (x ∷ xs) h (suc k) d below = All-each P xs h.1 k d (omega arith)

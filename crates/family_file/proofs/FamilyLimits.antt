@@ -10,7 +10,8 @@ use Rattle.ibp_algebra.specs.FormalSum.{AllKeys}
 use Rattle.ibp_algebra.specs.Polynomial.{Polynomial}
 use Rattle.mono_order.specs.declared.limits.TheConstants.{VARIABLES}
 use Rattle.poly_text.specs.declared.fault.TextFault.{TextFault}
-use Rattle.poly_text.specs.PolyText.{NumbersValue, value_in, text_answer}
+use Rattle.poly_text.specs.PolyText.{NumbersValue, value_in}
+use Rattle.poly_text.specs.Answer.{text_answer}
 use Rattle.sparse_poly.specs.declared.limits.TheConstants.{DEGREE_LIMIT, TERM_LIMIT}
 use Rattle.family_file.specs.declared.fault.FileFault.{FileFault}
 use Rattle.family_file.specs.declared.fault.FileFault.TheVariants as faults
@@ -32,7 +33,9 @@ use Rattle.family.specs.Within.{DataWithin}
 use Rattle.family_file.specs.Accepted.{MeetsNeed}
 use Rattle.family_file.specs.Family.{ShapeData, BodyData, table_of_bytes, header_of, shape_of, unless_zero, bounds_of, budget_of, probe_of, needed_probe, sector_check, baikov_of, body_of, family_of_keys, family_of}
 use Rattle.family.specs.FamilyData.{FamilyData}
-use Rattle.family_file.proofs.Binds.{bind_ok, if_ok, unless_ok, where_ok, ok_is, both_are, natural_within, collect_each, collect_length, All-each}
+use Rattle.family_file.proofs.Binds.{bind_ok, if_ok, unless_ok, where_ok, natural_within, collect_each, collect_length}
+use Rattle.ibp_base.proofs.Tests.{same_ok, both_true}
+use Rattle.ibp_base.proofs.Members.{All-each}
 use Rattle.family_file.proofs.TargetLimits.{powers_are, targets_are, AreTargets}
 use Rattle.family_file.proofs.SectorLimits.{zero_sectors_are, AreZeroSectors}
 use Rattle.family_file.proofs.PolynomialLimits.{IsRead, Small, zeros_at, read_normal, normal_form_length}
@@ -42,7 +45,7 @@ use Rattle.family_file.proofs.Filling.{padded_sum}
 -- ---- polynomials
 
 or_fault_read : (n : ℕ) (fault : FileFault) (r : Result Polynomial TextFault) (p : Polynomial) → ((q : Polynomial) → r ≡ Ok q → IsRead n q) → or_fault fault r ≡ Ok p → IsRead n p
-or_fault_read n fault (Ok q) p each e = subst (IsRead n) (ok_is q p e) (each q refl)
+or_fault_read n fault (Ok q) p each e = subst (IsRead n) (same_ok q p e) (each q refl)
 or_fault_read n fault (Err f) p each e = absurd (cc)
 
 text_in_read : (n : ℕ) → n ≤ VARIABLES → (fault : FileFault) (numbers : NumbersValue) (text : List ℕ) (p : Polynomial) → text_in fault n numbers text ≡ Ok p → IsRead n p
@@ -68,7 +71,7 @@ term_is fault n most (first ∷ others) term e =
     let coefficient = bind_ok (integer_in fault first) _ term e in
     let exponents = bind_ok (collect (exponent_in fault) others) _ term coefficient.1.1 in
     let made = if_ok (length exponents.0 == n && nat_le (sum exponents.0) DEGREE_LIMIT) _ term fault exponents.1.1 in
-    let sides = both_are (length exponents.0 == n) (nat_le (sum exponents.0) DEGREE_LIMIT) made.0 in
+    let sides = both_true (length exponents.0 == n) (nat_le (sum exponents.0) DEGREE_LIMIT) made.0 in
     let many : length exponents.0 ≡ n = grind (arith, nat_tests, sides.0) in
     let small : sum exponents.0 ≤ DEGREE_LIMIT = grind (arith, nat_tests, sides.1) in
     subst (IsReadTerm n) made.1 (record {
@@ -101,7 +104,7 @@ terms_read n most fault ds p e =
     let each = collect_each (IsReadTerm n) (term_in fault n) (term_in_is fault n most) ds read.0 read.1.0 in
     let many : length read.0 ≡ length ds = collect_length (term_in fault n) ds read.0 read.1.0 in
     let few : length ds ≤ TERM_LIMIT = grind (arith, nat_tests, within.0) in
-    subst (IsRead n) (ok_is _ p read.1.1) (read_normal n read.0 (each_variables n read.0 each) (each_small n read.0 each) (omega (arith, normal_form_length read.0, many, few)))
+    subst (IsRead n) (same_ok _ p read.1.1) (read_normal n read.0 (each_variables n read.0 each) (each_small n read.0 each) (omega (arith, normal_form_length read.0, many, few)))
 
 polynomial_read : (n : ℕ) → n ≤ VARIABLES → (fault : FileFault) (numbers : NumbersValue) (key : PolynomialData) (p : Polynomial) → polynomial_in fault n numbers key ≡ Ok p → IsRead n p
 polynomial_read n most fault numbers (polynomial_text text) p e = text_in_read n most fault numbers text p e
@@ -150,7 +153,7 @@ bounds_are keys bounds e =
     let rank = bind_ok (natural faults.Limits 0 20 keys.rank_cap) _ bounds dots.1.1 in
     let more_dots = bind_ok (natural faults.Limits 0 5 keys.extra_dots) _ bounds rank.1.1 in
     let more_rank = bind_ok (natural faults.Limits 0 5 keys.extra_rank) _ bounds more_dots.1.1 in
-    subst BoundsWithin (ok_is _ bounds more_rank.1.1) (record {
+    subst BoundsWithin (same_ok _ bounds more_rank.1.1) (record {
       dots_cap = (natural_within faults.Limits 0 20 keys.dots_cap dots.0 dots.1.0).1;
       rank_cap = (natural_within faults.Limits 0 20 keys.rank_cap rank.0 rank.1.0).1;
       extra_dots = (natural_within faults.Limits 0 5 keys.extra_dots more_dots.0 more_dots.1.0).1;
@@ -162,7 +165,7 @@ unfolding budget_of
 budget_is keys budget e =
     let pairs = bind_ok (natural faults.Budget 0 10000000 keys.pairs) _ budget e in
     let candidates = bind_ok (natural faults.Budget 0 20000 keys.candidates) _ budget pairs.1.1 in
-    subst BudgetWithin (ok_is _ budget candidates.1.1) (record {
+    subst BudgetWithin (same_ok _ budget candidates.1.1) (record {
       pairs = (natural_within faults.Budget 0 10000000 keys.pairs pairs.0 pairs.1.0).1;
       candidates = (natural_within faults.Budget 0 20000 keys.candidates candidates.0 candidates.1.0).1;
     })
@@ -175,7 +178,7 @@ probe_is n most numbers keys probe e =
     let seed = bind_ok (powers_from faults.Probe n keys.seed) _ probe b.1.1 in
     let field = field_read n most faults.Probe numbers keys.field a.0 a.1.0 in
     let factor = polynomial_read n most faults.Probe numbers keys.factor b.0 b.1.0 in
-    subst (IsProbe n) (ok_is _ probe seed.1.1) (record {
+    subst (IsProbe n) (same_ok _ probe seed.1.1) (record {
       field = record { count = field.count; polynomials = λ k d below. (field.each k d below).polynomial; factor = factor.polynomial };
       few_terms = λ k d below. (field.each k d below).few;
       few_factor_terms = factor.few;
@@ -186,16 +189,16 @@ needed_probe_is : (need : Need) (n : ℕ) → n ≤ VARIABLES → (numbers : Num
 unfolding needed_probe
 needed_probe_is need n most numbers None probe e =
     let made = unless_ok (needs_probe need) (Ok None) faults.Probe probe e in
-    let none : None ≡ probe = ok_is None probe made.1 in
+    let none : None ≡ probe = same_ok None probe made.1 in
     λ x found. absurd (cc)
 needed_probe_is need n most numbers (Some keys) probe e =
     let read = bind_ok (probe_of n numbers keys) _ probe e in
-    let some : Some read.0 ≡ probe = ok_is _ probe read.1.1 in
+    let some : Some read.0 ≡ probe = same_ok _ probe read.1.1 in
     λ x found. subst (IsProbe n) (let same : read.0 ≡ x = cc in same) (probe_is n most numbers keys read.0 read.1.0)
 
 not_zero_is : (p q : Polynomial) → unless_zero p ≡ Ok q → q ≢ []
 not_zero_is [] q e = absurd (cc)
-not_zero_is (term ∷ p) q e = λ none. let same : term ∷ p ≡ q = ok_is _ q e in absurd (cc)
+not_zero_is (term ∷ p) q e = λ none. let same : term ∷ p ≡ q = same_ok _ q e in absurd (cc)
 
 pub record IsBaikov (n : ℕ) (p : Polynomial) : Type 0 where
   pub read : IsRead n p
@@ -203,7 +206,7 @@ pub record IsBaikov (n : ℕ) (p : Polynomial) : Type 0 where
 
 unless_zero_is : (p q : Polynomial) → unless_zero p ≡ Ok q → p ≡ q
 unless_zero_is [] q e = absurd (cc)
-unless_zero_is (term ∷ p) q e = ok_is _ q e
+unless_zero_is (term ∷ p) q e = same_ok _ q e
 
 baikov_is : (n : ℕ) → n ≤ VARIABLES → (numbers : NumbersValue) (keys : BodyKeys) (p : Polynomial) → baikov_of n numbers keys ≡ Ok p → IsBaikov n p
 unfolding baikov_of
@@ -227,7 +230,7 @@ body_is n most keys body e =
     let baikov = bind_ok (baikov_of n numbers.0 keys) _ body numbers.1.1 in
     let zero = bind_ok (zero_sectors_of n keys.zero) _ body baikov.1.1 in
     let targets = bind_ok (targets_of n keys.targets) _ body zero.1.1 in
-    subst (IsBody n) (ok_is _ body targets.1.1) (record {
+    subst (IsBody n) (same_ok _ body targets.1.1) (record {
       baikov = baikov_is n most numbers.0 keys baikov.0 baikov.1.0;
       zero = zero_sectors_are n keys.zero zero.0 zero.1.0;
       targets = targets_are n keys.targets targets.0 targets.1.0;
@@ -268,7 +271,7 @@ keys_limits need keys family e =
     let probe = bind_ok (needed_probe need shape.0.variables body.0.numbers keys.probe) _ family budget.1.1 in
     let sector = bind_ok (sector_check need shape.0.variables) _ family probe.1.1 in
     let fits = shape_is keys.header shape.0 shape.1.0 in
-    subst DataWithin (ok_is _ family sector.1.1) (keys_within shape.0.variables fits.some fits.few need keys body.0 bounds.0 budget.0 probe.0 body.1.0 bounds.1.0 budget.1.0 probe.1.0)
+    subst DataWithin (same_ok _ family sector.1.1) (keys_within shape.0.variables fits.some fits.few need keys body.0 bounds.0 budget.0 probe.0 body.1.0 bounds.1.0 budget.1.0 probe.1.0)
 
 pub accepted_within : (need : Need) (bytes : List ℕ) (family : FamilyData) → family_of need bytes ≡ Ok family → DataWithin family
 unfolding family_of
@@ -285,7 +288,7 @@ unfolding needed_probe
 probe_given n numbers None probe e = absurd (cc)
 probe_given n numbers (Some keys) probe e =
     let read = bind_ok (probe_of n numbers keys) _ probe e in
-    subst IsSome (ok_is _ probe read.1.1) refl
+    subst IsSome (same_ok _ probe read.1.1) refl
 
 sector_given : (number n : ℕ) (checked : Unit {0}) → sector_check (needs.Sector number) n ≡ Ok checked → number < 2 ^ n
 sector_given number n checked e =
@@ -302,7 +305,7 @@ needs_met need keys family e =
     let budget = bind_ok (budget_of keys.budget) _ family bounds.1.1 in
     let probe = bind_ok (needed_probe need shape.0.variables body.0.numbers keys.probe) _ family budget.1.1 in
     let sector = bind_ok (sector_check need shape.0.variables) _ family probe.1.1 in
-    subst (MeetsNeed need) (ok_is _ family sector.1.1) (record {
+    subst (MeetsNeed need) (same_ok _ family sector.1.1) (record {
       probe = λ same. probe_given shape.0.variables body.0.numbers keys.probe probe.0 (subst (λ other. needed_probe other shape.0.variables body.0.numbers keys.probe ≡ Ok probe.0) same probe.1.0);
       sector = λ number same. sector_given number shape.0.variables sector.0 (subst (λ other. sector_check other shape.0.variables ≡ Ok sector.0) same sector.1.0);
     })

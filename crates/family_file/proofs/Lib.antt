@@ -9,6 +9,7 @@ pub mod FirstOccurrences
 pub mod TargetLimits
 pub mod SectorLimits
 pub mod PolynomialLimits
+pub mod Texts
 pub mod TextLimits
 pub mod Filling
 pub mod FamilyLimits

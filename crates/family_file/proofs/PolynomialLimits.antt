@@ -23,7 +23,8 @@ use Rattle.poly_text.specs.Tree.{Tree}
 use Rattle.poly_text.specs.Value.{constant, constant_term, is_zero, within_terms, sum_of, difference_of, product_of, quotient_of, negative_of, then_value, both_values, power_of, known_value, value}
 use Rattle.sparse_poly.specs.declared.limits.TheConstants.{DEGREE_LIMIT, TERM_LIMIT}
 use Rattle.family.specs.Shapes.{HasVariables, IsPolynomial}
-use Rattle.family_file.proofs.Binds.{unless_ok, ok_is}
+use Rattle.family_file.proofs.Binds.{unless_ok}
+use Rattle.ibp_base.proofs.Tests.{same_ok}
 
 -- a polynomial of a file
 pub record IsRead (n : ℕ) (p : Polynomial) : Type 0 where
@@ -114,7 +115,7 @@ within : (n at : ℕ) (f p : Polynomial) → AllKeys (HasVariables n) f → AllK
 within n at f p variables small h =
     let found = unless_ok (nat_lt TERM_LIMIT (length (normal_form deg_rev_lex f))) (Ok (normal_form deg_rev_lex f)) (TextFault.TermsOver at) p h in
     let few : length (normal_form deg_rev_lex f) ≤ TERM_LIMIT = grind (arith, nat_tests, found.0) in
-    subst (IsRead n) (ok_is _ p found.1) (read_normal n f variables small few)
+    subst (IsRead n) (same_ok _ p found.1) (read_normal n f variables small few)
 
 read_sum : (n at : ℕ) (f g p : Polynomial) → IsRead n f → IsRead n g → sum_of at f g ≡ Ok p → IsRead n p
 read_sum n at f g p h k e =
@@ -137,7 +138,7 @@ read_quotient : (n at : ℕ) (f g p : Polynomial) → IsRead n f → quotient_of
 read_quotient n at f g p h e =
     let constant_divisor = unless_ok (nat_lt 0 (degree_of g)) (cond (is_zero g) (Err (TextFault.ZeroDivisor at)) (Ok (normal_form deg_rev_lex (scale (inverse_mod (constant_term g)) f)))) (TextFault.NotConstant at) p e in
     let not_zero = unless_ok (is_zero g) (Ok (normal_form deg_rev_lex (scale (inverse_mod (constant_term g)) f))) (TextFault.ZeroDivisor at) p constant_divisor.1 in
-    subst (IsRead n) (ok_is _ p not_zero.1) (read_scaled n (inverse_mod (constant_term g)) f h)
+    subst (IsRead n) (same_ok _ p not_zero.1) (read_scaled n (inverse_mod (constant_term g)) f h)
 
 pub zeros_at : (k i : ℕ) → ◌≡◌ {A = ℕ} (slice_index_or (replicate k 0) i 0) 0
 zeros_at zero i = refl
@@ -166,7 +167,7 @@ after_one n (Ok f) go p each last e = last f (each f refl) e
 after_one n (Err fault) go p each last e = absurd (cc)
 
 read_power : (n at : ℕ) (f : Polynomial) (k : ℕ) (p : Polynomial) → IsRead n f → power_of at f k ≡ Ok p → IsRead n p
-read_power n at f zero p h e = subst (IsRead n) (ok_is _ p e) (read_constant n 1)
+read_power n at f zero p h e = subst (IsRead n) (same_ok _ p e) (read_constant n 1)
 read_power n at f (suc k) p h e = after_one n (power_of at f k) (λ g. product_of at g f) p (λ g so_far. read_power n at f k g h so_far) (λ g read last. read_product n at g f p read h last) e
 
 -- what each name stands for is a polynomial in the variables
@@ -174,7 +175,7 @@ abbrev pub NamesAre : ℕ → (List ℕ → Option Polynomial) → Type 0
 NamesAre n names = (word : List ℕ) (p : Polynomial) → names word ≡ Some p → IsRead n p
 
 known_read : (n at : ℕ) (o : Option Polynomial) (p : Polynomial) → ((f : Polynomial) → o ≡ Some f → IsRead n f) → known_value at o ≡ Ok p → IsRead n p
-known_read n at (Some f) p each e = subst (IsRead n) (ok_is _ p e) (each f refl)
+known_read n at (Some f) p each e = subst (IsRead n) (same_ok _ p e) (each f refl)
 known_read n at None p each e = absurd (cc)
 
 after_two : (n : ℕ) (operate : Polynomial → Polynomial → Result Polynomial TextFault) (r s : Result Polynomial TextFault) (p : Polynomial)
@@ -185,10 +186,10 @@ after_two n operate (Ok f) (Err fault) p left right last e = absurd (cc)
 after_two n operate (Err fault) s p left right last e = absurd (cc)
 
 pub value_read : (n : ℕ) (names : List ℕ → Option Polynomial) → NamesAre n names → (t : Tree) (p : Polynomial) → value names t ≡ Ok p → IsRead n p
-value_read n names each (Tree.whole k) p e = subst (IsRead n) (ok_is _ p e) (read_constant n k)
+value_read n names each (Tree.whole k) p e = subst (IsRead n) (same_ok _ p e) (read_constant n k)
 value_read n names each (Tree.name word at) p e = known_read n at (names word) p (each word) e
 value_read n names each (Tree.negative t) p e =
-    after_one n (value names t) (λ f. Ok (negative_of f)) p (value_read n names each t) (λ f h last. subst (IsRead n) (ok_is _ p last) (read_scaled n 2147483646 f h)) e
+    after_one n (value names t) (λ f. Ok (negative_of f)) p (value_read n names each t) (λ f h last. subst (IsRead n) (same_ok _ p last) (read_scaled n 2147483646 f h)) e
 value_read n names each (Tree.plus t at u) p e = after_two n (sum_of at) (value names t) (value names u) p (value_read n names each t) (value_read n names each u) (λ f g h k last. read_sum n at f g p h k last) e
 value_read n names each (Tree.minus t at u) p e = after_two n (difference_of at) (value names t) (value names u) p (value_read n names each t) (value_read n names each u) (λ f g h k last. read_difference n at f g p h k last) e
 value_read n names each (Tree.times t at u) p e = after_two n (product_of at) (value names t) (value names u) p (value_read n names each t) (value_read n names each u) (λ f g h k last. read_product n at f g p h k last) e

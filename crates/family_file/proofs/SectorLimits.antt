@@ -9,7 +9,9 @@ use Rattle.sector_lattice.specs.declared.sector.Sector.{Sector}
 use Rattle.family_file.specs.declared.fault.FileFault.TheVariants.{ZeroSectors}
 use Rattle.family_file.specs.Reading.{collect}
 use Rattle.family_file.specs.Arrays.{list_in, place_in, are_distinct, sector_number, sector_in, zero_sectors_of}
-use Rattle.family_file.proofs.Binds.{bind_ok, if_ok, unless_ok, ok_is, collect_each, collect_length, All-each}
+use Rattle.family_file.proofs.Binds.{bind_ok, if_ok, unless_ok, collect_each, collect_length}
+use Rattle.ibp_base.proofs.Tests.{same_ok}
+use Rattle.ibp_base.proofs.Members.{All-each}
 
 digit_fits : (b : Bool) (n m : ℕ) → m < 2 ^ n → m + cond b (2 ^ n) 0 < 2 ^ (suc n)
 digit_fits true n m h = grind (arith, pow-suc)
@@ -46,7 +48,7 @@ pub record AreZeroSectors (n : ℕ) (sectors : List Sector) : Type 0 where
 
 pub zero_sectors_are : (n : ℕ) (ds : Option (List Data)) (sectors : List Sector) → zero_sectors_of n ds ≡ Ok sectors → AreZeroSectors n sectors
 unfolding zero_sectors_of
-zero_sectors_are n None sectors h = subst (AreZeroSectors n) (ok_is [] sectors h) (record { few = omega arith; each = λ k d below. absurd (omega arith) })
+zero_sectors_are n None sectors h = subst (AreZeroSectors n) (same_ok [] sectors h) (record { few = omega arith; each = λ k d below. absurd (omega arith) })
 zero_sectors_are n (Some ds) sectors h =
     let within = unless_ok (nat_lt 512 (length ds)) _ ZeroSectors sectors h in
     let many : length sectors ≡ length ds = collect_length (sector_in n) ds sectors within.1 in

@@ -16,7 +16,9 @@ use Rattle.family_file.specs.Reading.{collect}
 use Rattle.family_file.specs.Arrays.{power_in, powers_from, powers_in, integer_in, list_in, targets_in, first_occurrences, targets_of}
 use Rattle.family.specs.Shapes.{ArePowers}
 use Rattle.family_file.proofs.FirstOccurrences.{first_occurrences_each, first_occurrences_length, first_occurrences_distinct}
-use Rattle.family_file.proofs.Binds.{bind_ok, where_ok, unless_ok, ok_is, whole_within, collect_each, collect_length, All-each}
+use Rattle.family_file.proofs.Binds.{bind_ok, where_ok, unless_ok, whole_within, collect_each, collect_length}
+use Rattle.ibp_base.proofs.Tests.{same_ok}
+use Rattle.ibp_base.proofs.Members.{All-each}
 
 pub record IsPower (z : ℤ) : Type 0 where
   pub low : negsuc 29 ≤ℤ z
@@ -85,7 +87,7 @@ unfolding targets_of
 targets_are n ds ts h =
     let within = unless_ok (nat_lt 1000 (length ds)) (targets_in n ds) Targets ts h in
     let read = bind_ok (collect (powers_in Targets n) ds) _ ts within.1 in
-    let first : first_occurrences read.0 ≡ ts = ok_is _ _ read.1.1 in
+    let first : first_occurrences read.0 ≡ ts = same_ok _ _ read.1.1 in
     let each = collect_each (ArePowers n) (powers_in Targets n) (powers_in_are Targets n) ds read.0 read.1.0 in
     let many : length read.0 ≡ length ds = collect_length (powers_in Targets n) ds read.0 read.1.0 in
     let few : length ds ≤ 1000 = grind (arith, nat_tests, within.0) in

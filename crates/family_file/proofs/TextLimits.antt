@@ -1,6 +1,6 @@
 -- What polynomial texts and term lists stand for is within the limits.
-use Rattle.std.proofs.Common.{◌≡◌, ℕ, ◌+◌, ◌-◌, ◌*◌, ◌<◌, ◌≤◌, Bool, true, false, cond, not, ◌&&◌, List, [], ◌∷◌, length, sum, replicate, Result, Ok, Err, Option, Some, None, refl, ◌∙◌, subst, arith}
-use Rattle.std.specs.Prelude.{nat_le, ◌==◌, slice_set, is_some, option_map, fold}
+use Rattle.std.proofs.Common.{◌≡◌, ℕ, ◌+◌, ◌-◌, ◌*◌, ◌<◌, ◌≤◌, Bool, true, false, cond, not, ◌&&◌, List, [], ◌∷◌, length, sum, replicate, Ok, Option, Some, None, refl, ◌∙◌, subst, arith}
+use Rattle.std.specs.Prelude.{nat_le, ◌==◌, slice_set, option_map, fold}
 use Rattle.std.specs.List.{list_all}
 use Rattle.std.specs.Char.{is_ascii_digit}
 use Rattle.std.proofs.lemmas.Bool.Decides.{nat_tests}
@@ -8,15 +8,14 @@ use Rattle.std.proofs.lemmas.List.{length-set, get_or-set_other}
 use Rattle.ibp_algebra.specs.Polynomial.{Polynomial}
 use Rattle.ibp_algebra.proofs.SumOfExponents.{sum-set}
 use Rattle.mono_order.specs.declared.limits.TheConstants.{VARIABLES}
-use Rattle.poly_text.specs.declared.fault.TextFault.{TextFault}
-use Rattle.poly_text.specs.Token.{whole_value, tokens}
-use Rattle.poly_text.specs.Tree.{Tree}
-use Rattle.poly_text.specs.Grammar.{tree_of}
-use Rattle.poly_text.specs.PolyText.{is_variable_name, variable_named, names_of, tree_value, text_answer}
+use Rattle.poly_text.specs.Token.{whole_value}
+use Rattle.poly_text.specs.PolyText.{is_variable_name, variable_named, names_of}
+use Rattle.poly_text.specs.Answer.{text_answer}
+use Rattle.poly_text.proofs.Answering.{answer_value}
 use Rattle.poly_text.specs.Value.{constant, variable}
 use Rattle.sparse_poly.specs.declared.limits.TheConstants.{DEGREE_LIMIT}
 use Rattle.family.specs.Shapes.{HasVariables}
-use Rattle.family_file.proofs.Binds.{both_are}
+use Rattle.ibp_base.proofs.Tests.{both_true, not_false}
 use Rattle.family_file.proofs.PolynomialLimits.{IsRead, no_exponents, read_constant, NamesAre, value_read}
 
 variable_exponents : (n k : ℕ) → k < n → n ≤ VARIABLES → HasVariables n (slice_set (replicate VARIABLES 0) k 1)
@@ -49,10 +48,6 @@ counts_from_one digit digits h k =
     let above : 49 ≤ digit = grind (arith, nat_tests, h, k) in
     omega (arith, above, rises digits (10 * 0 + (digit - 48)))
 
-not_false : (b : Bool) → not b ≡ true → b ≡ false
-not_false true h = absurd (cc)
-not_false false h = refl
-
 some_is : {A : Type 0} (test : Bool) (x y : A) → cond test (Some x) None ≡ Some y → (test ≡ true) × (x ≡ y)
 some_is true x y h = (refl, cc)
 some_is false x y h = absurd (cc)
@@ -62,9 +57,9 @@ variable_named_read n most [] p h e = absurd (cc)
 variable_named_read n most (b ∷ []) p h e = absurd (cc)
 variable_named_read n most (b ∷ digit ∷ digits) p h e =
     let found = some_is (not (digit == 48) && nat_le (whole_value (digit ∷ digits)) n) (variable (whole_value (digit ∷ digits))) p e in
-    let sides = both_are (not (digit == 48)) (nat_le (whole_value (digit ∷ digits)) n) found.0 in
-    let form = both_are (b == 122 && not (length (digit ∷ digits) == 0)) (list_all is_ascii_digit (digit ∷ digits)) h in
-    let first = both_are (is_ascii_digit digit) (list_all is_ascii_digit digits) form.1 in
+    let sides = both_true (not (digit == 48)) (nat_le (whole_value (digit ∷ digits)) n) found.0 in
+    let form = both_true (b == 122 && not (length (digit ∷ digits) == 0)) (list_all is_ascii_digit (digit ∷ digits)) h in
+    let first = both_true (is_ascii_digit digit) (list_all is_ascii_digit digits) form.1 in
     let some = counts_from_one digit digits first.0 (not_false (digit == 48) sides.0) in
     let few : whole_value (digit ∷ digits) ≤ n = grind (arith, nat_tests, sides.1) in
     subst (IsRead n) found.1 (variable_read n (whole_value (digit ∷ digits)) some few most)
@@ -85,10 +80,7 @@ named_read n most number word p false h e = number_named_read n (nat_le (length 
 names_are : (n : ℕ) → n ≤ VARIABLES → (number : List ℕ → Option ℕ) → NamesAre n (names_of n number)
 names_are n most number word p e = named_read n most number word p (is_variable_name word) refl e
 
-tree_read : (n : ℕ) (names : List ℕ → Option Polynomial) (r : Result Tree TextFault) (p : Polynomial) → NamesAre n names → tree_value names r ≡ Ok p → IsRead n p
-tree_read n names (Ok t) p each e = value_read n names each t p e
-tree_read n names (Err fault) p each e = absurd (cc)
-
 pub text_read : (n : ℕ) → n ≤ VARIABLES → (number : List ℕ → Option ℕ) (bytes : List ℕ) (p : Polynomial) → text_answer n number bytes ≡ Ok p → IsRead n p
-unfolding text_answer
-text_read n most number bytes p e = tree_read n (names_of n number) (tree_of (λ word. is_some (names_of n number word)) (length bytes) (tokens bytes)) p (names_are n most number) e
+text_read n most number bytes p e =
+    let found = answer_value n number bytes p e in
+    value_read n (names_of n number) (names_are n most number) found.0 p found.1

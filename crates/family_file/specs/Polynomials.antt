@@ -12,7 +12,8 @@ use Rattle.ibp_algebra.specs.FormalSum.{normal_form}
 use Rattle.ibp_algebra.specs.Polynomial.{Polynomial}
 use Rattle.mono_order.specs.declared.limits.TheConstants.{VARIABLES}
 use Rattle.poly_text.specs.declared.fault.TextFault.{TextFault}
-use Rattle.poly_text.specs.PolyText.{NumbersValue, value_in, text_answer, number_answer, is_number_name}
+use Rattle.poly_text.specs.PolyText.{NumbersValue, value_in, is_number_name}
+use Rattle.poly_text.specs.Answer.{text_answer, number_answer}
 use Rattle.sparse_poly.specs.declared.limits.TheConstants.{DEGREE_LIMIT, TERM_LIMIT}
 use Rattle.family_file.specs.declared.limits.TheConstants.{NUMBER_LIMIT}
 use Rattle.family_file.specs.declared.fault.FileFault.{FileFault}

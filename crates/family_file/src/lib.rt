@@ -23,6 +23,3 @@ pub use fault::{FamilyFault, FileFault};
 pub use limits::{LEG_LIMIT, LOOP_LIMIT, MAX_FILE, NUMBER_LIMIT};
 pub use need::Need;
 pub use read::read_family;
-
-#[cfg(test)]
-mod tests;

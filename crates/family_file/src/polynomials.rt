@@ -17,22 +17,21 @@ use crate::table::{NumberKey, PolynomialKey, polynomial};
 use ibp_base::NoMemory;
 use ibp_field::Residue;
 use mono_order::{Monomial, VARIABLES};
-use poly_text::{Numbers, TextFault, parse_number, parse_poly};
+use poly_text::{Numbers, Unread, read_number, read_poly};
 use sparse_poly::{DEGREE_LIMIT, Poly, TERM_LIMIT};
 use std::alloc::Global;
 use toml::value::Value;
 
 // Why a text stands for nothing, in a place that has this fault.
-fn fault_in(error: TextFault, fault: FileFault) -> FamilyFault
+fn fault_in(error: Unread, fault: FileFault) -> FamilyFault
     ensures { result ≡ fault_in fault error }
 {
     match error {
-        TextFault::NoMemory => FamilyFault::NoMemory,
-        _ => FamilyFault::File(fault),
+        Unread::Fault => FamilyFault::File(fault),
+        Unread::NoMemory => FamilyFault::NoMemory,
     }
 }
 
-// A text that is too long to have places has no room beside it.
 #[tactic(auto, unfolding(crate::specs::Polynomials::text_in))]
 fn text_in(
     alloc: Global,
@@ -44,10 +43,7 @@ fn text_in(
     requires { n ≤ VARIABLES }
     ensures { Gives (λ p. p) result (text_in fault n numbers.now text.now) }
 {
-    if text.len() > u32::MAX as usize {
-        return Err(FamilyFault::NoMemory);
-    }
-    match parse_poly(alloc, text, n, numbers) {
+    match read_poly(alloc, text, n, numbers) {
         Ok(polynomial) => Ok(polynomial),
         Err(error) => Err(fault_in(error, fault)),
     }
@@ -57,10 +53,7 @@ fn text_in(
 fn number_text_in(alloc: Global, text: &str, fault: FileFault) -> Result<Residue, FamilyFault>
     ensures { Gives (λ r. r) result (number_text_in fault text.now) }
 {
-    if text.len() > u32::MAX as usize {
-        return Err(FamilyFault::NoMemory);
-    }
-    match parse_number(alloc, text) {
+    match read_number(alloc, text) {
         Ok(number) => Ok(number),
         Err(error) => Err(fault_in(error, fault)),
     }

@@ -11,6 +11,3 @@ pub use gate::{Gate, OpenGate};
 pub use memory::{MemorySink, MemorySource};
 pub use standard::{StdSink, StdSource};
 pub use traits::{Failed, Sink, Source};
-
-#[cfg(test)]
-mod tests;

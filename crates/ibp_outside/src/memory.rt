@@ -1,8 +1,8 @@
 ghost use Rattle.std.specs.Prelude.{◌≡◌, ◌+◌, ◌-◌, ◌<◌, ◌≤◌, ◌↔◌, ◌++◌, min, take, drop, length, IsErr, IfOk, OnErr, Some, true, [], ◌||◌, ◌==◌};
 ghost use Rattle.std.specs.Io.{ReadsAtMost, WritesAtMost};
 ghost use Rattle.std.specs.Io.KnownBytes.{ReadConsumes, WriteAppends};
-ghost use Rattle.ibp_outside.specs.Causes.{HasCause};
-ghost use Rattle.ibp_outside.specs.Memory.{SourceState, SinkState, count_up, is_listed, source_fails, sink_fails};
+ghost use Rattle.ibp_outside.specs.Causes.{HasCause, count_up};
+ghost use Rattle.ibp_outside.specs.Memory.{SourceState, SinkState, is_listed, source_fails, sink_fails};
 
 use crate::traits::{Failed, Sink, Source};
 use std::marker::Model;

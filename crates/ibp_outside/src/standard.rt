@@ -1,4 +1,7 @@
-ghost use Rattle.std.specs.Prelude.{◌≡◌, ◌<◌, ◌≤◌, length, None, IfSome};
+ghost use Rattle.std.specs.Prelude.{◌≡◌, ◌<◌, ◌≤◌, length, None, IfSome, IfOk, OnOk, OnErr};
+ghost use Rattle.std.specs.Io.{ReadsAtMost, WritesAtMost};
+ghost use Rattle.std.specs.Io.KnownBytes.{ReadConsumes, WriteAppends};
+ghost use Rattle.ibp_outside.specs.Causes.{HasCause, count_up};
 
 use crate::traits::{Failed, Sink, Source};
 use std::io::{Read, Write};
@@ -33,7 +36,15 @@ impl<R: Read> Source for StdSource<R> {
 
     ghost faults = { λ count. count };
 
-    fn read(&mut self, buf: &mut [u8]) -> Result<usize, Failed> {
+    fn read(&mut self, buf: &mut [u8]) -> Result<usize, Failed>
+        ensures bound { ReadsAtMost result buf.new }
+        ensures bytes { ReadConsumes None None result buf.new }
+        ensures cause { HasCause self.old self.new result }
+
+        // A call that is Ok leaves the count, and one that failed adds one.
+        ensures ok { OnOk result (self.new ≡ self.old) }
+        ensures err { OnErr result (self.new ≡ count_up self.old) }
+    {
         match self.reader.read(buf) {
             Ok(count) => Ok(count),
             Err(_) => {
@@ -88,7 +99,16 @@ impl<W: Write> Sink for StdSink<W> {
 
     ghost faults = { λ count. count };
 
-    fn write(&mut self, piece: &[u8]) -> Result<usize, Failed> {
+    fn write(&mut self, piece: &[u8]) -> Result<usize, Failed>
+        ensures bound { WritesAtMost result piece.now }
+        ensures some { 0 < length piece.now → IfOk result (λ n. 0 < n) }
+        ensures bytes { WriteAppends None None result piece.now }
+        ensures cause { HasCause self.old self.new result }
+
+        // A call that is Ok leaves the count, and one that failed adds one.
+        ensures ok { OnOk result (self.new ≡ self.old) }
+        ensures err { OnErr result (self.new ≡ count_up self.old) }
+    {
         match write_and_flush(&mut self.writer, piece) {
             Some(count) => Ok(count),
             None => {

@@ -7,24 +7,13 @@ use Rattle.ibp_algebra.specs.FormalSum.{AllKeys, IsCanonical}
 use Rattle.ibp_algebra.specs.Exponents.{same_exponents, deg_rev_lex}
 use Rattle.ibp_algebra.specs.ExponentOrder.{exponents_decide, deg_rev_lex_total}
 use Rattle.ibp_algebra.specs.Polynomial.{Polynomial, SamePolynomial, degree_of, derivative}
-use Rattle.ibp_algebra.proofs.SumOfExponents.{sum-set}
+use Rattle.ibp_algebra.proofs.SumOfExponents.{one_less}
+use Rattle.ibp_algebra.proofs.Degrees.{AllKeys-same}
 use Rattle.ibp_algebra.proofs.Terms.{coefficient-CountingKeys, AllKeys-canonical}
 use Rattle.ibp_algebra.proofs.Divisibility.{CountingKeys-from_all}
 use Rattle.ibp_algebra.proofs.Combinations.{AllKeys-weaker}
 use Rattle.family.specs.Shapes.{IsPolynomial}
 use Rattle.ibp_relation.specs.Shifts.{HasDegree}
-
--- what holds of each term of a sum holds of each term of a canonical one with the same coefficients
-pub AllKeys-same : (P : List ℕ → Type 0) (f g : Polynomial) → IsCanonical deg_rev_lex f → SamePolynomial f g → AllKeys P g → AllKeys P f
-AllKeys-same P f g canonical same h =
-    AllKeys-canonical same_exponents exponents_decide deg_rev_lex deg_rev_lex_total P f canonical
-    (λ key counts. coefficient-CountingKeys same_exponents exponents_decide P g (CountingKeys-from_all P g h) key
-    (λ zero. counts (same.same_at key ∙ zero)))
-
-one_less : (i : ℕ) (m : List ℕ) → sum (set m i (get_or m i 0 - 1)) ≤ sum m
-one_less i m =
-    ⊎_elim (λ (within : i < length m). omega (arith, sum-set m i (get_or m i 0 - 1) within)) (λ (past : length m ≤ i). rw (set_past m i (get_or m i 0 - 1) past) (omega arith))
-    (cases_lt i (length m))
 
 pub HasDegree-derivative_terms : (degree i : ℕ) (f : Polynomial) → HasDegree degree f → HasDegree degree (derivative i f)
 HasDegree-derivative_terms degree i [] h = tt
@@ -33,10 +22,6 @@ HasDegree-derivative_terms degree i (t ∷ f) h = (omega (arith, one_less i t.0,
 pub HasDegree-derivative : (degree i : ℕ) (derived f : Polynomial) → IsCanonical deg_rev_lex derived → SamePolynomial derived (derivative i f) → HasDegree degree f → HasDegree degree derived
 HasDegree-derivative degree i derived f canonical same h =
     AllKeys-same (λ m. sum m ≤ degree) derived (derivative i f) canonical same (HasDegree-derivative_terms degree i f h)
-
-pub degree_within : (degree : ℕ) (f : Polynomial) → HasDegree degree f → degree_of f ≤ degree
-degree_within degree [] h = omega arith
-degree_within degree (t ∷ f) h = omega (arith, h.0, degree_within degree f h.1)
 
 pub HasDegree-more : (less more : ℕ) (f : Polynomial) → less ≤ more → HasDegree less f → HasDegree more f
 HasDegree-more less more f fits h = AllKeys-weaker (λ m. sum m ≤ less) (λ m. sum m ≤ more) (λ m within. omega arith) f h

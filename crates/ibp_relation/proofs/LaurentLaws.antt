@@ -13,6 +13,7 @@ use Rattle.ibp_field.proofs.Congruence.{IsCongruent-refl, IsCongruent-sym, IsCon
 use Rattle.ibp_algebra.proofs.Weights.{SameCoefficients-from_weights}
 use Rattle.ibp_algebra.proofs.SumLaws.{SameCoefficients-refl, SameCoefficients-sym, SameCoefficients-trans, SameCoefficients-append, SameCoefficients-scale, SameCoefficients-product, SameCoefficients-map_keys, product_comm, product_assoc, product-append_left, product-scale_left, product-map_keys}
 use Rattle.ibp_algebra.specs.Exponents.{add_exponents, first_exponents, same_exponents}
+use Rattle.ibp_algebra.specs.ExponentOrder.{exponents_decide}
 use Rattle.ibp_algebra.specs.Polynomial.{Polynomial, SamePolynomial, multiply, derivative}
 use Rattle.ibp_algebra.proofs.ExponentLaws.{padded_sum-nil, padded_sum_comm, padded_sum_assoc, first_exponents-add_exponents, map-padded_sum}
 use Rattle.ibp_algebra.specs.Laurent.{Laurent, same_powers, SameLaurent, add_powers, multiply_laurent, minus_unit, laurent_derivative, laurent}
@@ -34,9 +35,6 @@ pos_add x y = omega (arith, ints)
 
 pub powers_decide : (a b : List ℤ) → Decides (same_powers a b) (a ≡ b)
 powers_decide = pointwise_decides signed_Decides
-
-pub exponents_decide : (a b : List ℕ) → Decides (same_exponents a b) (a ≡ b)
-exponents_decide = pointwise_decides unsigned_Decides
 
 pub add_powers_comm : (a b : List ℤ) → add_powers a b ≡ add_powers b a
 add_powers_comm = padded_sum_comm ◌+ℤ◌ int_add_comm

@@ -3,6 +3,7 @@ use Rattle.std.proofs.Common.{◌≡◌, ◌≢◌, ℕ, zero, suc, ◌+◌, ◌
 use Rattle.std.specs.Prelude.{ℤ, pos, ◌<ℤ◌, ◌≤ℤ◌, slice_get}
 use Rattle.std.specs.List.{All}
 use Rattle.std.proofs.lemmas.List.{take_more, take_all, length-take-le, length-set}
+use Rattle.ibp_base.proofs.Tests.{is_false}
 use Rattle.ibp_algebra.specs.FormalSum.{AllKeys, IsCanonical, map_keys, times_term}
 use Rattle.ibp_algebra.specs.Exponents.{add_exponents, deg_rev_lex, same_exponents}
 use Rattle.ibp_algebra.specs.Polynomial.{Polynomial, SamePolynomial, multiply, degree_of}
@@ -167,17 +168,13 @@ unstripped_canonical in_sector n c few h = all_unstripped (IsCanonical deg_rev_l
 
 -- ---- one of them
 
-not_true : (v : Bool) → (v ≡ true → ⊥) → v ≡ false
-not_true true h = absurd (h refl)
-not_true false h = refl
-
 pub inside_factor : (α : List ℤ) (i : ℕ) (x : ℤ) (f : Polynomial) → slice_get α i ≡ Some x → pos 0 <ℤ x
     → multiply (variable i) f ≡ (if in_sector_of α i then multiply (variable i) f else f)
 inside_factor α i x f e h = ap (λ v. if v then multiply (variable i) f else f) (sym (in_sector_when α i x e h))
 
 pub outside_factor : (α : List ℤ) (i : ℕ) (x : ℤ) (f : Polynomial) → slice_get α i ≡ Some x → x ≤ℤ pos 0
     → f ≡ (if in_sector_of α i then multiply (variable i) f else f)
-outside_factor α i x f e h = ap (λ v. if v then multiply (variable i) f else f) (sym (not_true (in_sector_of α i) (outside_when α i x e h)))
+outside_factor α i x f e h = ap (λ v. if v then multiply (variable i) f else f) (sym (is_false (in_sector_of α i) (outside_when α i x e h)))
 
 -- ---- no power rises
 

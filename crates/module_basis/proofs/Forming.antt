@@ -1,16 +1,14 @@
 -- The pairs that an element forms with those before it, one by one, and the state that they lead to.
-use Rattle.std.proofs.Common.{◌≡◌, ℕ, suc, ◌+◌, ◌<◌, Bool, true, false, if◌then◌else◌, ◌⊎◌, inl, inr, length, drop, List, [], ◌∷◌, ◌++◌, refl, ap, arith}
+use Rattle.std.proofs.Common.{◌≡◌, ℕ, suc, ◌+◌, ◌<◌, Bool, true, false, if◌then◌else◌, inl, inr, length, drop, List, [], ◌∷◌, ◌++◌, refl, ap, arith}
 use Rattle.std.specs.Prelude.{nat_eq}
-use Rattle.std.specs.List.{Contains}
 use Rattle.std.specs.declared.cmp.Ordering.{Ordering}
 use Rattle.std.proofs.lemmas.List.Elements.{All-push}
 use Rattle.mono_order.specs.Term.{Term, lcm_term}
 use Rattle.pair_queue.specs.declared.queue.Pair.{Pair}
 use Rattle.pair_queue.specs.Pairs.{insert_pair, insert_pairs}
 use Rattle.module_vec.specs.ModuleVector.{ModuleVector, lead, IsMonicVector}
-use Rattle.module_basis.specs.PlainRun.{RunState, run_state, AreNewPairs, pairs_with, has_pair_over, Listed, IsProper, pair_at, IsSoundState}
-use Rattle.module_basis.proofs.ReducedBases.{Contains-cases}
-use Rattle.module_basis.proofs.RunLaws.{from_insert, from_insert_pairs, formed_pairs, proper_more, proper_new}
+use Rattle.module_basis.specs.PlainRun.{RunState, run_state, AreNewPairs, pairs_with, has_pair_over, IsProper, pair_at, IsSoundState}
+use Rattle.module_basis.proofs.RunLaws.{Listed, listed, contained, from_insert, from_insert_pairs, formed_pairs, proper_more, proper_new}
 
 -- the pairs of the elements before a place, none of them over the limit
 pub record IsFormed (limit second : ℕ) (new : Term) (elements : List ModuleVector) (i : ℕ) (pairs : List Pair) : Type 0 where
@@ -19,10 +17,6 @@ pub record IsFormed (limit second : ℕ) (new : Term) (elements : List ModuleVec
 
 -- ---- the pairs are new
 
-Listed-contains : (pairs : List Pair) (q : Pair) → Contains pairs q → Listed pairs q
-Listed-contains [] q h = absurd (omega (arith, h.1))
-Listed-contains (p ∷ pairs) q h = elim (Contains-cases p pairs q h) as (λ c. (p ≡ q) ⊎ Listed pairs q) [ inl e ↦ inl e | inr k ↦ inr (Listed-contains pairs q k) ]
-
 AreBefore : ℕ → ℕ → List Pair → Type 0
 AreBefore second first pairs = (q : Pair) → Listed pairs q → q.second ≡ second → q.first < first
 
@@ -30,14 +24,14 @@ AreNewPairs-if : (order : Term → Term → Ordering) (b : Bool) (second first :
     → ((all : List Pair) → AreBefore second (suc first) all → AreNewPairs order others all) → AreNewPairs order (if b then (p ∷ others) else others) pairs
 unfolding AreBefore
 AreNewPairs-if order true second first p others pairs first_is second_is before later = (
-  λ c. let listed = Listed-contains pairs p c in let k = before p listed second_is in omega (arith, k, first_is),
-  later (insert_pair order p pairs) (λ q listed same.
-      elim (from_insert order p pairs q listed) as (λ x. q.first < suc first) [
+  λ c. let k = before p (listed pairs p c) second_is in omega (arith, k, first_is),
+  later (insert_pair order p pairs) (λ q inside same.
+      elim (from_insert order p pairs q inside) as (λ x. q.first < suc first) [
         | inl e ↦ let k : p.first ≡ q.first = ap (λ (r : Pair). r.first) e in omega (arith, k, first_is)
         | inr l ↦ let k = before q l same in omega (arith, k)
       ]),
 )
-AreNewPairs-if order false second first p others pairs first_is second_is before later = later pairs (λ q listed same. let k = before q listed same in omega (arith, k))
+AreNewPairs-if order false second first p others pairs first_is second_is before later = later pairs (λ q inside same. let k = before q inside same in omega (arith, k))
 
 AreNewPairs-with : (order : Term → Term → Ordering) (second : ℕ) (new : Term) (first : ℕ) (elements : List ModuleVector) (pairs : List Pair) → AreBefore second first pairs
     → AreNewPairs order (pairs_with second new first elements) pairs
@@ -51,8 +45,8 @@ pub AreNewPairs-formed : (order : Term → Term → Ordering) (variables : ℕ) 
 unfolding AreBefore pair_at
 AreNewPairs-formed order variables state v sound =
     AreNewPairs-with order (length state.elements + 1) (lead v) 1 state.elements state.pairs
-    (λ q listed same.
-    let proper = sound.proper q listed in
+    (λ q inside same.
+    let proper = sound.proper q (contained state.pairs q inside) in
     let second : q.second ≡ proper.j + 1 = ap (λ (p : Pair). p.second) proper.is in
     omega (arith, second, same, proper.within))
 
@@ -63,9 +57,9 @@ pub IsSoundState-added : (order : Term → Term → Ordering) (variables : ℕ) 
 IsSoundState-added order variables state v taken sound monic =
     record {
       monic = All-push (IsMonicVector order variables) state.elements v sound.monic monic;
-      proper = λ q listed.
-          elim (from_insert_pairs order (formed_pairs state.elements v) state.pairs q listed) as (λ x. IsProper (state.elements ++ v ∷ []) q) [
+      proper = λ q inside.
+          elim (from_insert_pairs order (formed_pairs state.elements v) state.pairs q (listed _ q inside)) as (λ x. IsProper (state.elements ++ v ∷ []) q) [
             | inl formed ↦ proper_new state.elements v q formed
-            | inr old ↦ proper_more state.elements v q (sound.proper q old)
+            | inr old ↦ proper_more state.elements v q (sound.proper q (contained state.pairs q old))
           ];
     }

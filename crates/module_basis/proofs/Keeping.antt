@@ -1,7 +1,7 @@
 -- From a basis to the reduced one, step by step: the vectors with low leads are put in descending order, and those
 -- stay whose leads no lead of a later one divides.
 use Rattle.std.proofs.Common.{◌≡◌, ℕ, suc, ◌+◌, ◌<◌, ◌≤◌, Bool, true, false, if◌then◌else◌, Option, Some, None, inl, inr, ⊎_elim, sum, length, get_or, take, drop, List, [], ◌∷◌, ◌++◌, sym, refl, ap, subst, ◌∙◌, append_assoc, arith}
-use Rattle.std.specs.List.{All, AllByRecursion, Contains}
+use Rattle.std.specs.List.{All, AllByRecursion, Contains, prefix_len}
 use Rattle.std.specs.Ordering.{is_lt}
 use Rattle.std.specs.declared.cmp.Ordering.{Ordering}
 use Rattle.std.specs.declared.cmp.Ordering.TheVariants.{Less, Equal, Greater}
@@ -15,11 +15,24 @@ use Rattle.mono_order.specs.TermOrder.{IsTermOrder}
 use Rattle.module_vec.specs.ModuleVector.{ModuleVector, lead, IsMonic, IsMonicVector}
 use Rattle.module_vec.specs.Division.{Remainder, DividesTo, first_divisor}
 use Rattle.module_basis.specs.GroebnerBasis.{IsTailReduced}
-use Rattle.module_basis.specs.Reducing.{descending_place, insert_descending, Descends, IsSortedLow, IsKept}
+use Rattle.module_basis.specs.Reducing.{Descends, IsSortedLow, IsKept}
 use Rattle.module_basis.proofs.ReducedBases.{Contains-low, from_low_elements, low_from_lead, reduced_monic, IsTailReduced-divided}
-use Rattle.module_basis.proofs.Reducing.{Every-insert, Contains-insert, Descends-insert, length-insert, kept_dropped, kept_added}
+use Rattle.module_basis.proofs.Reducing.{insert_descending, Every-insert, Contains-insert, Descends-insert, length-insert, kept_dropped, kept_added}
 
 -- ---- the place of a term in a descending list
+
+-- how many vectors in front have leads above the term
+abbrev pub descending_place : (Term → Term → Ordering) → Term → List ModuleVector → ℕ
+descending_place order t [] = 0
+descending_place order t (h ∷ list) = if is_lt (order t (lead h)) then suc (descending_place order t list) else 0
+
+place_if : (b : Bool) (n m : ℕ) → n ≡ m → (if b then suc n else 0) ≡ (if b then 1 + m else 0)
+place_if true n m e = omega (arith, e)
+place_if false n m e = refl
+
+pub descending_place-is : (order : Term → Term → Ordering) (t : Term) (list : List ModuleVector) → descending_place order t list ≡ prefix_len (λ v. is_lt (order t (lead v))) list
+descending_place-is order t [] = refl
+descending_place-is order t (h ∷ list) = place_if (is_lt (order t (lead h))) _ _ (descending_place-is order t list)
 
 pub record IsPlaced (order : Term → Term → Ordering) (t : Term) (list : List ModuleVector) (i : ℕ) : Type 0 where
   pub within : i ≤ length list

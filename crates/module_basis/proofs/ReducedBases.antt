@@ -1,12 +1,13 @@
 -- From a Groebner basis to the reduced one: the vectors with low leads are a basis of the low members, vectors
 -- may be dropped or changed while the leads still divide all leads, and a minimal basis with reduced tails is
 -- reduced. At most one list is a reduced basis.
-use Rattle.std.proofs.Common.{◌≡◌, ◌≢◌, ℕ, zero, suc, ◌<◌, ◌≤◌, Bool, true, false, if◌then◌else◌, ◌⊎◌, inl, inr, sum, length, get_or, List, [], ◌∷◌, ◌++◌, sym, refl, ap, subst, ◌∙◌, arith}
+use Rattle.std.proofs.Common.{◌≡◌, ◌≢◌, ℕ, ◌<◌, ◌≤◌, Bool, true, false, if◌then◌else◌, inl, inr, sum, length, get_or, List, [], ◌∷◌, ◌++◌, sym, refl, ap, subst, ◌∙◌, arith}
 use Rattle.std.specs.List.{All, AllZip, Contains}
 use Rattle.std.specs.declared.cmp.Ordering.{Ordering}
 use Rattle.std.specs.declared.cmp.Ordering.TheVariants.{Greater}
 use Rattle.std.proofs.lemmas.List.{get_or_default}
 use Rattle.std.proofs.lemmas.List.Elements.{All-contains, All-weaker, All-contains_itself, All-from_get_or, Contains-get_or, AllZip-get_or, length_all_zip}
+use Rattle.ibp_base.proofs.Members.{in_cases, in_tail}
 use Rattle.ibp_algebra.specs.FormalSum.{AllKeys, IsCanonical, scale}
 use Rattle.ibp_algebra.specs.Combination.{combination}
 use Rattle.ibp_algebra.proofs.Weights.{weighted_sum-append, weighted_sum-scale, weighted_sum-SameCoefficients, SameCoefficients-from_weights}
@@ -56,28 +57,18 @@ IsSubmodule-IsLowMember variables high Member submodule =
       );
     }
 
-Contains-cons : {X : Type 0} (x : X) (list : List X) (g : X) → Contains list g → Contains (x ∷ list) g
-Contains-cons x list g h = (suc h.0, omega (arith, h.1), h.2)
-
-pub Contains-cases : {X : Type 0} (x : X) (list : List X) (g : X) → Contains (x ∷ list) g → (x ≡ g) ⊎ Contains list g
-Contains-cases {X} x list g h =
-    elim h.0 as (λ k. k < length (x ∷ list) → get_or (x ∷ list) k g ≡ g → (x ≡ g) ⊎ Contains list g) [
-      | zero ↦ λ below is. inl is
-      | suc k ↦ λ below is. inr (k, omega arith, is)
-    ] h.1 h.2
-
 low_if_first : (b : Bool) (x : ModuleVector) (others : List ModuleVector) → b ≡ false → Contains (if b then others else (x ∷ others)) x
 low_if_first true x others e = cc
 low_if_first false x others e = (0, omega arith, refl)
 
 low_if_later : (b : Bool) (x : ModuleVector) (others : List ModuleVector) (g : ModuleVector) → Contains others g → Contains (if b then others else (x ∷ others)) g
 low_if_later true x others g h = h
-low_if_later false x others g h = Contains-cons x others g h
+low_if_later false x others g h = in_tail x others g h
 
 pub Contains-low : (high : ℕ → Bool) (list : List ModuleVector) (g : ModuleVector) → Contains list g → high (lead g).0 ≡ false → Contains (low_elements high list) g
 Contains-low high [] g h low = absurd (omega (arith, h.1))
 Contains-low high (x ∷ list) g h low =
-    elim (Contains-cases x list g h) as (λ c. Contains (low_elements high (x ∷ list)) g) [
+    elim (in_cases x list g h) as (λ c. Contains (low_elements high (x ∷ list)) g) [
       | inl is ↦ subst (λ (y : ModuleVector). Contains (low_elements high (x ∷ list)) y) is
           (low_if_first (high (lead x).0) x (low_elements high list) (ap (λ (y : ModuleVector). high (lead y).0) is ∙ low))
       | inr later ↦ low_if_later (high (lead x).0) x (low_elements high list) g (Contains-low high list g later low)
@@ -85,11 +76,11 @@ Contains-low high (x ∷ list) g h low =
 
 from_low_if : (b : Bool) (high : ℕ → Bool) (x : ModuleVector) (list others : List ModuleVector) (g : ModuleVector) → high (lead x).0 ≡ b
     → (Contains others g → Contains list g × (high (lead g).0 ≡ false)) → Contains (if b then others else (x ∷ others)) g → Contains (x ∷ list) g × (high (lead g).0 ≡ false)
-from_low_if true high x list others g e later h = let k = later h in (Contains-cons x list g k.0, k.1)
+from_low_if true high x list others g e later h = let k = later h in (in_tail x list g k.0, k.1)
 from_low_if false high x list others g e later h =
-    elim (Contains-cases x others g h) as (λ c. Contains (x ∷ list) g × (high (lead g).0 ≡ false)) [
+    elim (in_cases x others g h) as (λ c. Contains (x ∷ list) g × (high (lead g).0 ≡ false)) [
       | inl is ↦ ((0, omega arith, is), ap (λ (y : ModuleVector). high (lead y).0) (sym is) ∙ e)
-      | inr k ↦ let l = later k in (Contains-cons x list g l.0, l.1)
+      | inr k ↦ let l = later k in (in_tail x list g l.0, l.1)
     ]
 
 pub from_low_elements : (high : ℕ → Bool) (list : List ModuleVector) (g : ModuleVector) → Contains (low_elements high list) g → Contains list g × (high (lead g).0 ≡ false)

@@ -1,6 +1,6 @@
 -- From a basis to the reduced one: vectors are put in descending order, one whose lead is divisible by the lead of
 -- another that stays is dropped, and with reduced tails the rest is the reduced basis.
-use Rattle.std.proofs.Common.{◌≡◌, ◌≢◌, ℕ, zero, suc, ◌+◌, ◌<◌, ◌≤◌, Bool, true, false, if◌then◌else◌, Some, None, ◌⊎◌, inl, inr, ⊎_elim, length, get_or, List, [], ◌∷◌, ◌++◌, sym, refl, ap, ◌∙◌, arith, length-append}
+use Rattle.std.proofs.Common.{◌≡◌, ◌≢◌, ℕ, suc, ◌+◌, ◌<◌, ◌≤◌, Bool, true, false, if◌then◌else◌, Some, None, ◌⊎◌, inl, inr, ⊎_elim, length, get_or, List, [], ◌∷◌, ◌++◌, sym, refl, ap, ◌∙◌, arith, length-append}
 use Rattle.std.specs.List.{All, AllByRecursion, AllZip, Contains}
 use Rattle.std.specs.Ordering.{is_lt}
 use Rattle.std.specs.declared.cmp.Ordering.{Ordering}
@@ -9,6 +9,8 @@ use Rattle.std.proofs.Math.Seq.{get_or-append_seam}
 use Rattle.std.proofs.lemmas.Bool.{cases_lt}
 use Rattle.std.proofs.lemmas.List.{get_or_append_left}
 use Rattle.std.proofs.lemmas.List.Elements.{All-contains, All-weaker, All-contains_itself, All-from_recursion, Contains-get_or, Contains-append_left, Contains-append_cases, Contains-push}
+use Rattle.ibp_base.proofs.Tests.{is_false}
+use Rattle.ibp_base.proofs.Members.{in_cases, in_tail}
 use Rattle.ibp_algebra.proofs.Canonical.{Less-reverse, Greater-reverse}
 use Rattle.ibp_algebra.proofs.StandardRepresentations.{not_less-trans}
 use Rattle.mono_order.specs.Term.{Term, divides}
@@ -20,8 +22,13 @@ use Rattle.module_vec.proofs.Multiples.{IsTerm-lead}
 use Rattle.module_vec.proofs.Submodules.{IsSubmodule-IsMember}
 use Rattle.module_vec.proofs.DivisionLaws.{first_divisor-some, first_divisor-none}
 use Rattle.module_basis.specs.GroebnerBasis.{IsGroebnerBasis, IsReducedBasis, IsLowMember, low_elements, IsTailReduced}
-use Rattle.module_basis.specs.Reducing.{insert_descending, Descends, IsSortedLow, IsKept}
+use Rattle.module_basis.specs.Reducing.{Descends, IsSortedLow, IsKept}
 use Rattle.module_basis.proofs.ReducedBases.{IsSubmodule-IsLowMember, from_low_elements, elimination, IsGroebnerBasis-leads, reduced_from_minimal}
+
+-- a vector put at its place in a list that descends by lead
+unfoldable pub insert_descending : (Term → Term → Ordering) → ModuleVector → List ModuleVector → List ModuleVector
+insert_descending order g [] = g ∷ []
+insert_descending order g (h ∷ list) = if is_lt (order (lead g) (lead h)) then (h ∷ insert_descending order g list) else (g ∷ h ∷ list)
 
 -- ---- descending order
 
@@ -36,28 +43,18 @@ Every-insert P order g [] p h = (p, tt)
 Every-insert P order g (x ∷ list) p h = Every-insert_if P _ g x list (insert_descending order g list) p h (Every-insert P order g list p h.1)
 
 -- nothing is lost
-pub cons_contains : {X : Type 0} (x : X) (list : List X) (g : X) → Contains list g → Contains (x ∷ list) g
-cons_contains x list g h = (suc h.0, omega (arith, h.1), h.2)
-
-pub cons_cases : {X : Type 0} (x : X) (list : List X) (g : X) → Contains (x ∷ list) g → (x ≡ g) ⊎ Contains list g
-cons_cases {X} x list g h =
-    elim h.0 as (λ k. k < length (x ∷ list) → get_or (x ∷ list) k g ≡ g → (x ≡ g) ⊎ Contains list g) [
-      | zero ↦ λ below is. inl is
-      | suc k ↦ λ below is. inr (k, omega arith, is)
-    ] h.1 h.2
-
 Contains-insert_if : (b : Bool) (g h : ModuleVector) (list after : List ModuleVector) (x : ModuleVector) → ((g ≡ x) ⊎ Contains list x → Contains after x) → (g ≡ x) ⊎ Contains (h ∷ list) x
     → Contains (if b then (h ∷ after) else (g ∷ h ∷ list)) x
-Contains-insert_if true g h list after x later (inl e) = cons_contains h after x (later (inl e))
+Contains-insert_if true g h list after x later (inl e) = in_tail h after x (later (inl e))
 Contains-insert_if true g h list after x later (inr c) =
-    elim (cons_cases h list x c) as (λ k. Contains (h ∷ after) x) [ inl e ↦ (0, omega arith, e) | inr k ↦ cons_contains h after x (later (inr k)) ]
+    elim (in_cases h list x c) as (λ k. Contains (h ∷ after) x) [ inl e ↦ (0, omega arith, e) | inr k ↦ in_tail h after x (later (inr k)) ]
 Contains-insert_if false g h list after x later (inl e) = (0, omega arith, e)
-Contains-insert_if false g h list after x later (inr c) = cons_contains g (h ∷ list) x c
+Contains-insert_if false g h list after x later (inr c) = in_tail g (h ∷ list) x c
 
 pub Contains-insert : (order : Term → Term → Ordering) (g : ModuleVector) (list : List ModuleVector) (x : ModuleVector) → (g ≡ x) ⊎ Contains list x → Contains (insert_descending order g list) x
 unfolding insert_descending
 Contains-insert order g [] x (inl e) = (0, omega arith, e)
-Contains-insert order g [] x (inr c) = cons_contains g [] x c
+Contains-insert order g [] x (inr c) = in_tail g [] x c
 Contains-insert order g (h ∷ list) x c = Contains-insert_if _ g h list (insert_descending order g list) x (Contains-insert order g list x) c
 
 -- ---- dropping
@@ -67,10 +64,6 @@ at_old list g i below = get_or_append_left list (g ∷ []) [] i below
 
 at_new : (list : List ModuleVector) (g : ModuleVector) (i : ℕ) → i ≡ length list → get_or (list ++ g ∷ []) i [] ≡ g
 at_new list g i e = ap (λ k. get_or (list ++ g ∷ []) k []) e ∙ get_or-append_seam list g [] []
-
-is_false : (b : Bool) → (b ≡ true → ⊥) → b ≡ false
-is_false true h = absurd (h refl)
-is_false false h = refl
 
 module _ {variables : ℕ} {order : Term → Term → Ordering} {high : ℕ → Bool} {height : Term → ℕ} {bound : ℕ}
     (laws : IsTermOrder variables order high height bound) where
@@ -107,9 +100,9 @@ module _ {variables : ℕ} {order : Term → Term → Ordering} {high : ℕ → 
   pub kept_dropped : (g : ModuleVector) (list kept : List ModuleVector) → IsKept order list kept → (h : ModuleVector) → first_divisor kept (lead g) ≡ Some h → IsKept order (g ∷ list) kept
   kept_dropped g list kept k h e =
       record {
-        within = λ x c. cons_contains g list x (k.within x c);
+        within = λ x c. in_tail g list x (k.within x c);
         divided = λ x c.
-            elim (cons_cases g list x c) as (λ o. HasDivisor kept (lead x)) [
+            elim (in_cases g list x c) as (λ o. HasDivisor kept (lead x)) [
               | inl is ↦
                   let found = first_divisor-some kept (lead g) h e in
                   (h, found.0, ap (λ (y : ModuleVector). divides (lead h) (lead y)) (sym is) ∙ found.1)
@@ -142,16 +135,16 @@ module _ {variables : ℕ} {order : Term → Term → Ordering} {high : ℕ → 
       let more = kept ++ g ∷ [] in
       let long : length more ≡ length kept + 1 = length-append kept (g ∷ []) in
       let lead_valid = λ (x : ModuleVector) (c : Contains (g ∷ list) x). IsTerm-lead laws x (monic x c).monic (monic x c).terms in
-      let in_list = λ (x : ModuleVector) (c : Contains kept x). cons_contains g list x (k.within x c) in
+      let in_list = λ (x : ModuleVector) (c : Contains kept x). in_tail g list x (k.within x c) in
       let first : Contains (g ∷ list) g = (0, omega arith, refl) in
       record {
         within = λ x c.
             elim (Contains-append_cases kept (g ∷ []) x c) as (λ o. Contains (g ∷ list) x) [
               | inl d ↦ in_list x d
-              | inr d ↦ elim (cons_cases g [] x d) as (λ o. Contains (g ∷ list) x) [ inl is ↦ (0, omega arith, is) | inr none ↦ absurd (omega (arith, none.1)) ]
+              | inr d ↦ elim (in_cases g [] x d) as (λ o. Contains (g ∷ list) x) [ inl is ↦ (0, omega arith, is) | inr none ↦ absurd (omega (arith, none.1)) ]
             ];
         divided = λ x c.
-            elim (cons_cases g list x c) as (λ o. HasDivisor more (lead x)) [
+            elim (in_cases g list x c) as (λ o. HasDivisor more (lead x)) [
               | inl is ↦ (g, Contains-push kept g, ap (λ (y : ModuleVector). divides (lead g) (lead y)) (sym is) ∙ divides-refl (lead g))
               | inr d ↦ let old = k.divided x d in (old.0, Contains-append_left kept (g ∷ []) old.0 old.1, old.2)
             ];

@@ -1,6 +1,7 @@
 -- The plain run of generators that are not zero ends, and in one way.
 use Rattle.std.proofs.Common.{◌≡◌, ◌≢◌, ℕ, zero, suc, ◌+◌, ◌≤◌, ◌↔◌, Bool, true, false, if◌then◌else◌, Option, Some, None, Result, Err, List, [], ◌∷◌, refl, ap, ◌∙◌, arith}
 use Rattle.std.specs.declared.cmp.Ordering.{Ordering}
+use Rattle.ibp_base.proofs.Tests.{some_is_not_none}
 use Rattle.mono_order.specs.Term.{Term}
 use Rattle.module_vec.specs.ModuleVector.{ModuleVector}
 use Rattle.module_vec.specs.Division.{Division}
@@ -10,14 +11,11 @@ use Rattle.module_basis.specs.PlainRun.{RunState, RunEnd, Step, Next, Over, with
 use Rattle.module_basis.specs.declared.fault.BasisFault.{BasisFault}
 use Rattle.module_basis.specs.declared.fault.BasisFault.TheVariants as faults
 
-is_some : {X : Type 0} (x : X) → ◌≡◌ {A = Option X} None (Some x) → ⊥
-is_some x e = cc
-
 -- ---- more steps give the same
 
 remainder-more : (order : Term → Term → Ordering) (limit : ℕ) (state : RunState) (x y : Option Division) (step : Step) → ((d : Division) → x ≡ Some d → y ≡ Some d)
     → with_remainder order limit state x ≡ Some step → with_remainder order limit state y ≡ Some step
-remainder-more order limit state None y step more e = absurd (is_some step e)
+remainder-more order limit state None y step more e = absurd (some_is_not_none step e)
 remainder-more order limit state (Some d) y step more e = ap (with_remainder order limit state) (more d refl) ∙ e
 
 if-more : {X : Type 0} (b : Bool) (over x y : Option X) (z : X) → (x ≡ Some z → y ≡ Some z) → (if b then over else x) ≡ Some z → (if b then over else y) ≡ Some z
@@ -32,7 +30,7 @@ take_pair-more order limit n m le pair state step e =
 
 after-more : (x y : Option Step) (f g : RunState → Option RunEnd) (end : RunEnd) → ((s : Step) → x ≡ Some s → y ≡ Some s) → ((s : RunState) → f s ≡ Some end → g s ≡ Some end)
     → after_step f x ≡ Some end → after_step g y ≡ Some end
-after-more None y f g end more later e = absurd (is_some end e)
+after-more None y f g end more later e = absurd (some_is_not_none end e)
 after-more (Some Over) y f g end more later e = ap (after_step g) (more Over refl) ∙ e
 after-more (Some (Next next)) y f g end more later e = ap (after_step g) (more (Next next) refl) ∙ later next e
 

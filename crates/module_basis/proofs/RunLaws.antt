@@ -12,6 +12,7 @@ use Rattle.std.proofs.lemmas.List.{get_or_append_left, get_or_default}
 use Rattle.std.proofs.lemmas.List.Elements.{All-contains, All-weaker, All-push, All-nil, All-contains_itself, recursion_from_All, Contains-get_or, Contains-append_left, Contains-push}
 use Rattle.std.specs.declared.cmp.Ordering.{Ordering}
 use Rattle.std.specs.declared.cmp.Ordering.TheVariants.{Greater}
+use Rattle.ibp_base.proofs.Members.{in_cases, in_head, in_tail, in_none}
 use Rattle.ibp_algebra.specs.Combination.{IsEqualBelow}
 use Rattle.ibp_algebra.proofs.Canonical.{Greater-trans}
 use Rattle.ibp_algebra.proofs.Combinations.{AllKeys-weaker, IsEqualBelow-refl, IsEqualBelow-sym}
@@ -32,9 +33,23 @@ use Rattle.module_vec.specs.Division.{Division, Remainder, OverDegree, divide, m
 use Rattle.module_basis.specs.GroebnerBasis.{HasStandardRepresentation, AllPairsReduce, IsGroebnerBasis}
 use Rattle.pair_queue.specs.declared.queue.Pair.{Pair}
 use Rattle.pair_queue.specs.Pairs.{insert_pair, insert_pairs}
-use Rattle.module_basis.specs.PlainRun.{Listed, pair_at, IsProper, pairs_with, RunState, with_element, has_pair_over, with_generators, opening, RunEnd, Done, PairsSpent, DegreeOver, Step, Next, Over, step_to, with_remainder, take_pair, without_pair, after_step, run_pairs, run_from, RunsTo}
+use Rattle.module_basis.specs.PlainRun.{pair_at, IsProper, pairs_with, RunState, with_element, has_pair_over, with_generators, opening, RunEnd, Done, PairsSpent, DegreeOver, Step, Next, Over, step_to, with_remainder, take_pair, without_pair, after_step, run_pairs, run_from, RunsTo}
 
 -- ---- pairs in a list
+
+-- membership by recursion
+abbrev pub Listed : List Pair → Pair → Type 0
+Listed [] q = ⊥
+Listed (p ∷ pairs) q = (p ≡ q) ⊎ Listed pairs q
+
+pub listed : (pairs : List Pair) (q : Pair) → Contains pairs q → Listed pairs q
+listed [] q h = absurd (in_none q h)
+listed (p ∷ pairs) q h = elim (in_cases p pairs q h) as (λ c. (p ≡ q) ⊎ Listed pairs q) [ inl e ↦ inl e | inr k ↦ inr (listed pairs q k) ]
+
+pub contained : (pairs : List Pair) (q : Pair) → Listed pairs q → Contains pairs q
+contained [] q h = absurd h
+contained (p ∷ pairs) q (inl e) = in_head p pairs q e
+contained (p ∷ pairs) q (inr h) = in_tail p pairs q (contained pairs q h)
 
 Listed-insert_if : (b : Bool) (p r : Pair) (others after : List Pair) (q : Pair) → ((p ≡ q) ⊎ Listed others q → Listed after q)
     → (p ≡ q) ⊎ Listed (r ∷ others) q → Listed (if b then (p ∷ r ∷ others) else (r ∷ after)) q

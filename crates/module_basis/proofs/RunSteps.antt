@@ -4,9 +4,14 @@ use Rattle.std.specs.declared.cmp.Ordering.{Ordering}
 use Rattle.mono_order.specs.Term.{Term}
 use Rattle.module_vec.specs.ModuleVector.{ModuleVector}
 use Rattle.pair_queue.specs.declared.queue.Pair.{Pair}
-use Rattle.module_basis.specs.PlainRun.{RunState, RunEnd, Done, PairsSpent, DegreeOver, Next, Over, without_pair, TakesFirst, after_step, run_pairs, run_from, opening, RunsFrom, RunsTo}
+use Rattle.module_basis.specs.PlainRun.{RunState, RunEnd, Done, PairsSpent, DegreeOver, Next, Over, without_pair, TakesFirst, after_step, run_pairs, run_from, opening, RunsTo}
 use Rattle.module_basis.proofs.RunEnds.{take_pair-more, run_pairs-more}
 use Rattle.module_basis.proofs.RunCounts.{take_pair-counts, opening-counts}
+
+-- the run goes on from this state, with a budget of so many more pairs, and ends so
+pub record RunsFrom (order : Term → Term → Ordering) (limit : ℕ) (budget : ℕ) (state : RunState) (end : RunEnd) : Type 0 where
+  pub steps : ℕ
+  pub ends : run_pairs order limit steps budget state.pairs state ≡ Some end
 
 module _ (order : Term → Term → Ordering) (limit : ℕ) where
   pub RunsTo-opened : (generators : List ModuleVector) (budget : ℕ) (state : RunState) → opening order limit generators ≡ Some state → (end : RunEnd)

@@ -12,9 +12,9 @@ use Rattle.mono_order.specs.TermOrder.{IsTermOrder}
 use Rattle.module_vec.specs.ModuleVector.{ModuleVector, lead, IsMonicVector}
 use Rattle.module_vec.specs.Division.{first_divisor}
 use Rattle.module_basis.specs.GroebnerBasis.{IsTailReduced, IsReducedLowBasis, low_elements}
-use Rattle.module_basis.specs.Reducing.{insert_descending, Descends, IsSortedLow, IsKept}
+use Rattle.module_basis.specs.Reducing.{Descends, IsSortedLow, IsKept}
 use Rattle.module_basis.proofs.ReducedBases.{from_low_elements, low_from_lead, IsTailReduced-divided, low_division}
-use Rattle.module_basis.proofs.Reducing.{Every-insert, Contains-insert, Descends-insert, kept_dropped, kept_added, length-insert, reduced_low}
+use Rattle.module_basis.proofs.Reducing.{insert_descending, Every-insert, Contains-insert, Descends-insert, kept_dropped, kept_added, length-insert, reduced_low}
 
 descending : (Term → Term → Ordering) → List ModuleVector → List ModuleVector
 descending order [] = []

@@ -4,13 +4,12 @@
 --     opening                      the monic multiples of the generators are added in turn
 --     take_pair                    the remainder of the pair's S-vector is added, where it is not zero
 --     RunEnd                       Done with the elements and the pairs taken, PairsSpent or DegreeOver
---     Listed, IsProper             the pair is in the list;  it is one of two elements with leads in one component
+--     IsProper                     the pair is one of two elements with leads in one component
 --     IsSoundState                 the elements are monic, and the pairs are proper
 --     TakesFirst                   the first pair is taken, and what follows
---     RunsFrom                     the run goes on from a state and ends so
 --     RunsTo                       the run of the generators with this budget ends so
 -- Source: Buchberger's algorithm for submodules as in Using Algebraic Geometry of Cox, Little and O'Shea.
-use Rattle.std.specs.Prelude.{◌≡◌, ℕ, zero, suc, ◌+◌, ◌-◌, Bool, false, ◌||◌, if◌then◌else◌, nat_eq, nat_lt, sum, ◌<◌, ◌⊎◌, Option, Some, None, length, get_or, List, [], ◌∷◌, ◌++◌}
+use Rattle.std.specs.Prelude.{◌≡◌, ℕ, zero, suc, ◌+◌, ◌-◌, Bool, false, ◌||◌, if◌then◌else◌, nat_eq, nat_lt, sum, ◌<◌, Option, Some, None, length, get_or, List, [], ◌∷◌, ◌++◌}
 use Rattle.std.specs.List.{All, Contains}
 use Rattle.std.specs.declared.cmp.Ordering.{Ordering}
 use Rattle.mono_order.specs.Term.{Term, lcm_term}
@@ -60,10 +59,6 @@ opening order limit generators = with_generators order limit (Some (record { ele
 
 -- ---- what a run keeps
 
-abbrev pub Listed : List Pair → Pair → Type 0
-Listed [] q = ⊥
-Listed (p ∷ pairs) q = (p ≡ q) ⊎ Listed pairs q
-
 -- the pair of the elements at two places, which are counted from 0
 unfoldable pub pair_at : List ModuleVector → ℕ → ℕ → Pair
 pair_at elements i j = record { first = 1 + i; second = j + 1; lcm = lcm_term (lead (get_or elements i [])) (lead (get_or elements j [])) }
@@ -80,7 +75,7 @@ pub record IsProper (elements : List ModuleVector) (q : Pair) : Type 0 where
 -- the elements are monic, and the pairs are pairs of them
 pub record IsSoundState (order : Term → Term → Ordering) (variables : ℕ) (state : RunState) : Type 0 where
   pub monic : All (IsMonicVector order variables) state.elements
-  pub proper : (q : Pair) → Listed state.pairs q → IsProper state.elements q
+  pub proper : (q : Pair) → Contains state.pairs q → IsProper state.elements q
 
 -- ---- pairs
 
@@ -155,8 +150,3 @@ plain_run order limit steps generators budget = run_from order limit steps budge
 pub record RunsTo (order : Term → Term → Ordering) (limit : ℕ) (generators : List ModuleVector) (budget : ℕ) (end : RunEnd) : Type 0 where
   pub steps : ℕ
   pub ends : plain_run order limit steps generators budget ≡ Some end
-
--- the run goes on from this state, with a budget of so many more pairs, and ends so
-pub record RunsFrom (order : Term → Term → Ordering) (limit : ℕ) (budget : ℕ) (state : RunState) (end : RunEnd) : Type 0 where
-  pub steps : ℕ
-  pub ends : run_pairs order limit steps budget state.pairs state ≡ Some end

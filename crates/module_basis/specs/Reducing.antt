@@ -1,25 +1,15 @@
 -- From a basis to the reduced one.
---     insert_descending, Descends    a vector is put at its place in a list that descends by lead
+--     Descends                       the list descends by lead
 --     IsSortedLow                    the vectors with low leads, in descending order
 --     IsKept                         what stays of a list: no lead divides another one, and each lead of the list is divisible
 -- Source: the reduction of a Gröbner basis to the reduced one as in Using Algebraic Geometry of Cox, Little and O'Shea.
-use Rattle.std.specs.Prelude.{◌≢◌, ℕ, suc, ◌≤◌, Bool, if◌then◌else◌, length, List, [], ◌∷◌}
+use Rattle.std.specs.Prelude.{◌≢◌, ◌≤◌, ℕ, Bool, length, List, [], ◌∷◌}
 use Rattle.std.specs.List.{AllByRecursion, Contains}
-use Rattle.std.specs.Ordering.{is_lt}
 use Rattle.std.specs.declared.cmp.Ordering.{Ordering}
 use Rattle.std.specs.declared.cmp.Ordering.TheVariants.{Less}
 use Rattle.mono_order.specs.Term.{Term}
 use Rattle.module_vec.specs.ModuleVector.{ModuleVector, lead, HasDivisor}
 use Rattle.module_basis.specs.GroebnerBasis.{IsMinimal, AscendsByLead, low_elements}
-
-unfoldable pub insert_descending : (Term → Term → Ordering) → ModuleVector → List ModuleVector → List ModuleVector
-insert_descending order g [] = g ∷ []
-insert_descending order g (h ∷ list) = if is_lt (order (lead g) (lead h)) then (h ∷ insert_descending order g list) else (g ∷ h ∷ list)
-
--- how many vectors in front have leads above the term
-abbrev pub descending_place : (Term → Term → Ordering) → Term → List ModuleVector → ℕ
-descending_place order t [] = 0
-descending_place order t (h ∷ list) = if is_lt (order t (lead h)) then suc (descending_place order t list) else 0
 
 abbrev pub Descends : (Term → Term → Ordering) → List ModuleVector → Type 0
 Descends order [] = Unit {0}

@@ -8,8 +8,6 @@ pub mod laws;
 mod pairs;
 mod reduce;
 mod run;
-#[cfg(test)]
-mod tests;
 
 pub use basis::Basis;
 pub use fault::BasisFault;

@@ -1,8 +1,8 @@
 ghost use Rattle.std.specs.Prelude.{◌≡◌, ◌+◌, ◌^◌, ◌<◌, ◌↔◌, true, false, sum, length, IsNone, IfSome, IfOk, OnOk};
 ghost use Rattle.std.specs.List.{All};
-ghost use Rattle.mono_order.specs.declared.limits.TheConstants.{VARIABLES, RUN_DEGREE};
+ghost use Rattle.mono_order.specs.declared.limits.TheConstants.{RUN_DEGREE};
 ghost use Rattle.mono_order.specs.Term.{lcm_term};
-ghost use Rattle.module_vec.specs.ModuleVector.{IsMonic, IsVector, lead};
+ghost use Rattle.module_vec.specs.ModuleVector.{IsMonic};
 ghost use Rattle.pair_queue.specs.Pairs.{insert_pairs};
 ghost use Rattle.module_basis.specs.PlainRun.{AreNewPairs, pairs_with, has_pair_over};
 
@@ -12,18 +12,6 @@ use module_vec::Vector;
 use mono_order::{RUN_DEGREE, Term, TermOrder};
 use pair_queue::{Pair, PairQueue};
 use std::alloc::Global;
-
-// The lead of a monic vector.
-pub(crate) fn lead_of<O: TermOrder>(v: &Vector<O>) -> Term
-    requires { IsMonic v.now }
-    ensures lead { result ≡ lead v.now }
-    ensures kept { IsVector O.order VARIABLES v.now }
-{
-    let Some((term, _)) = v.lead() else {
-        unreachable!()
-    };
-    term
-}
 
 // The pairs of a new element, whose lead is given, with the elements before it.
 pub(crate) fn formed_pairs<O: TermOrder>(
@@ -41,7 +29,7 @@ pub(crate) fn formed_pairs<O: TermOrder>(
     let second = elements.len() as u32 + 1;
     let mut pairs = Vec::new(alloc);
     for (place, element) in elements.iter().enumerate() {
-        let lead = lead_of(element);
+        let lead = element.lead_term();
         if lead.component == new.component {
             let Some(pair) = pair_of(place as u32 + 1, second, &lead, new) else {
                 return Err(BasisFault::DegreeOver);

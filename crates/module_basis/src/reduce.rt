@@ -1,17 +1,17 @@
 ghost use Rattle.std.specs.Prelude.{◌≡◌, ◌≤◌, ◌↔◌, false, sum, length, None, IsFalse, IfOk};
-ghost use Rattle.std.specs.List.{All, AllZip};
+ghost use Rattle.std.specs.List.{All, AllZip, prefix_len};
+ghost use Rattle.std.specs.Ordering.{is_lt};
 ghost use Rattle.mono_order.specs.declared.limits.TheConstants.{VARIABLES, RUN_DEGREE};
 ghost use Rattle.ibp_algebra.specs.FormalSum.{AllKeys, IsCanonical};
 ghost use Rattle.module_vec.specs.ModuleVector.{IsMonic, IsMonicVector, IsVector, lead};
 ghost use Rattle.module_vec.specs.Division.{DividesTo, Remainder, first_divisor, is_over_degree};
 ghost use Rattle.module_basis.specs.GroebnerBasis.{IsReducedLowBasis, IsTailReduced};
-ghost use Rattle.module_basis.specs.Reducing.{descending_place, Descends, IsSortedLow, IsKept};
+ghost use Rattle.module_basis.specs.Reducing.{Descends, IsSortedLow, IsKept};
 
 use crate::basis::Basis;
-use crate::pairs::lead_of;
 use ibp_base::{List, NoMemory};
 use ibp_field::Residue;
-use module_division::normal_form;
+use module_division::{find_divisor, normal_form};
 use module_vec::{Vector, VectorFault};
 use mono_order::{Term, TermOrder};
 use std::alloc::Global;
@@ -43,7 +43,7 @@ fn sorted_low<O: TermOrder>(
 {
     let mut sorted = Vec::new(alloc);
     for element in elements {
-        let lead = lead_of(element);
+        let lead = element.lead_term();
         if !O::is_high(lead.component) {
             let place = place_of(&sorted, &lead);
             sorted.insert(place, element.copy(alloc)?)?;
@@ -55,11 +55,11 @@ fn sorted_low<O: TermOrder>(
 // The number of the vectors in front whose leads are above the term.
 fn place_of<O: TermOrder>(list: &[Vector<O>], term: &Term) -> usize
     requires { All IsMonic list.now }
-    ensures place { result ≡ descending_place O.order term.now list.now }
+    ensures place { result ≡ prefix_len (λ v. is_lt (O.order term.now (lead v))) list.now }
     ensures within { result ≤ length list.now }
 {
     for (place, vector) in list.iter().enumerate() {
-        if O::compare(term, &lead_of(vector)) != Ordering::Less {
+        if O::compare(term, &vector.lead_term()) != Ordering::Less {
             return place;
         }
     }
@@ -77,7 +77,7 @@ fn undivided<O: TermOrder>(
 {
     let mut kept = Vec::new(alloc);
     'vectors: while let Some(vector) = sorted.pop() {
-        if !is_divided(&kept, &lead_of(&vector)) {
+        if !is_divided(&kept, &vector.lead_term()) {
             kept.push(vector)?;
         }
     }
@@ -89,13 +89,7 @@ fn is_divided<O: TermOrder>(list: &[Vector<O>], term: &Term) -> bool
     requires { All IsMonic list.now }
     ensures { IsFalse result ↔ (first_divisor list.now term.now ≡ None) }
 {
-    for vector in list {
-        let lead = lead_of(vector);
-        if lead.component == term.component && lead.monomial.divides(&term.monomial) {
-            return true;
-        }
-    }
-    false
+    find_divisor(list, term).is_some()
 }
 
 // The vectors of the list, each with the terms below its lead reduced by the list.

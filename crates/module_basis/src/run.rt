@@ -8,7 +8,7 @@ ghost use Rattle.module_basis.specs.PlainRun.{IsProper, IsSoundState, RunsTo, Do
 
 use crate::basis::Basis;
 use crate::fault::BasisFault;
-use crate::pairs::{formed_pairs, lead_of, push_all};
+use crate::pairs::{formed_pairs, push_all};
 use ibp_base::NoMemory;
 use module_division::{normal_form, s_vector};
 use module_vec::{Vector, VectorFault};
@@ -102,7 +102,7 @@ impl<O: TermOrder> Run<O> {
             mut pairs,
             taken,
         } = self;
-        let formed = formed_pairs(alloc, &elements, &lead_of(&element))?;
+        let formed = formed_pairs(alloc, &elements, &element.lead_term())?;
         push_all(&mut pairs, &formed)?;
         elements.push(element)?;
         Ok(Run {

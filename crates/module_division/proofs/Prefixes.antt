@@ -18,12 +18,12 @@ use Rattle.mono_order.specs.Term.{Term, same_term, quotient_exponents, divides, 
 use Rattle.mono_order.specs.TermOrder.{IsTermOrder}
 use Rattle.mono_order.proofs.Terms.{terms_decide, divides-quotient, length-quotient}
 use Rattle.module_vec.specs.ModuleVector.{ModuleVector, multiply_vector, lead, IsVector, IsMonicVector, multiple_value}
-use Rattle.module_vec.specs.Division.{Division, Remainder, OverDegree, DividesTo, first_divisor, is_over_degree, subtract_multiple, multiple_with_lead, lead_measure}
+use Rattle.module_vec.specs.Division.{Division, Remainder, OverDegree, DividesTo, first_divisor, is_over_degree, subtract_multiple, multiple_with_lead}
 use Rattle.module_vec.proofs.Multiples.{IsMonicVector-multiply, IsTerm-lead, lead-multiply}
 use Rattle.module_vec.proofs.Degrees.{AllKeys-at, AllKeys-within}
 use Rattle.module_vec.proofs.DivisionLaws.{IsCanonical-subtract, AllBelow-subtract, AllKeys-subtract}
 use Rattle.module_vec.proofs.DivisionSteps.{prefixed, prefixed-more, DividesTo-zero, DividesTo-moved, DividesTo-over, DividesTo-subtracted}
-use Rattle.module_vec.proofs.Measure.{lead_measure-falls}
+use Rattle.module_vec.proofs.Measure.{lead_measure, lead_measure-falls}
 
 AllKeys-parts : {K : Type 0} (P : K → Type 0) (f g : FormalSum K) → AllKeys P (f ++ g) → AllKeys P f × AllKeys P g
 AllKeys-parts P [] g h = (tt, h)

@@ -2,7 +2,8 @@
 #![tactic(auto)]
 
 mod division;
+pub mod laws;
 mod s_vectors;
 
-pub use division::normal_form;
+pub use division::{find_divisor, normal_form};
 pub use s_vectors::s_vector;

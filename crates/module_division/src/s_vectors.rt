@@ -3,7 +3,6 @@ ghost use Rattle.mono_order.specs.declared.limits.TheConstants.{RUN_DEGREE};
 ghost use Rattle.module_vec.specs.ModuleVector.{IsMonic, lead};
 ghost use Rattle.module_vec.specs.Division.{is_s_vector_over, s_vector as s_vector_of};
 
-use crate::division::lead_monomial;
 use ibp_field::Residue;
 use module_vec::{Vector, VectorFault};
 use mono_order::TermOrder;
@@ -23,11 +22,16 @@ pub fn s_vector<O: TermOrder>(
     ensures within { OnOk result (is_s_vector_over RUN_DEGREE left.now right.now ≡ false) }
     ensures over { result ≡ Err VectorFault.DegreeOver → is_s_vector_over RUN_DEGREE left.now right.now ≡ true }
 {
-    let first = lead_monomial(left);
-    let second = lead_monomial(right);
-    let Some(lcm) = first.lcm(&second) else {
+    let first = left.lead_term();
+    let second = right.lead_term();
+    let Some(lcm) = first.monomial.lcm(&second.monomial) else {
         return Err(VectorFault::DegreeOver);
     };
-    let shifted = left.shift(alloc, &lcm.quotient(&first))?;
-    shifted.sub_multiple(alloc, Residue::one(), &lcm.quotient(&second), right)
+    let shifted = left.shift(alloc, &lcm.quotient(&first.monomial))?;
+    shifted.sub_multiple(
+        alloc,
+        Residue::one(),
+        &lcm.quotient(&second.monomial),
+        right,
+    )
 }

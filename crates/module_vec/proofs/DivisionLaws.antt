@@ -180,7 +180,7 @@ module _ {variables : ℕ} {order : Term → Term → Ordering} {high : ℕ → 
         }
 
     -- the first term of a monic vector is of the kind P, and so are the lesser ones
-    AllKeys-from_lead : (P : Term → Type 0) → ((t u : Term) → P t → order t u ≡ Greater → P u) → (v : ModuleVector) → IsCanonical order v → P (lead v) → AllKeys P v
+    pub AllKeys-from_lead : (P : Term → Type 0) → ((t u : Term) → P t → order t u ≡ Greater → P u) → (v : ModuleVector) → IsCanonical order v → P (lead v) → AllKeys P v
     AllKeys-from_lead P closed [] c p = tt
     AllKeys-from_lead P closed (t ∷ v) c p = (p, AllKeys-weaker _ P (λ u above. closed t.0 u p above) v c.2)
 

@@ -9,7 +9,7 @@ use Rattle.sector_job.specs.declared.outcome.Outcome.TheVariants as outcome
 use Rattle.system_text.specs.declared.value.System.{System}
 use Rattle.neat_system.specs.declared.fault.SystemFault.{SystemFault}
 use Rattle.neat_system.specs.declared.fault.SystemFault.TheVariants.{PairsSpent, DegreeOver, CandidatesOver, NoMemory}
-use Rattle.neat_system.specs.Answer.{fault_in, IsAnswer}
+use Rattle.neat_system.specs.Answer.{fault_in, IsAnswer, IsAnswerFor}
 use Rattle.neat_system.specs.System.{IsSystem, IsFault}
 use Rattle.neat_system.proofs.OneSystem.{one_system, one_fault, never_both}
 
@@ -49,3 +49,16 @@ module _ (family : FamilyData) (within : DataWithin family) where
 
     pub candidates_if : (sector : Sector) → answer ≢ Err NoMemory → (answer ≡ Err (CandidatesOver sector)) ↔ IsFault family sector.0 outcome.CandidatesOver
     candidates_if sector some = (λ e. subst (IsAnswer family) e is, λ right. exactly (CandidatesOver sector) sector outcome.CandidatesOver refl right answer is some)
+
+    pub answer_for : IsAnswerFor family answer
+    answer_for = record { system = system_if family answer is; complete = complete_if answer is; pairs = pairs_if; degree = degree_if; candidates = candidates_if }
+
+-- want of memory says nothing
+pub no_memory_answers : (family : FamilyData) → IsAnswerFor family (Err NoMemory)
+no_memory_answers family = record {
+  system = tt;
+  complete = λ system is some. absurd (some refl);
+  pairs = λ sector some. absurd (some refl);
+  degree = λ sector some. absurd (some refl);
+  candidates = λ sector some. absurd (some refl);
+}

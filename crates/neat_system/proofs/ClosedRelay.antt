@@ -23,8 +23,8 @@ use Rattle.family.specs.declared.family.Family.{Family}
 use Rattle.relay_core.specs.Family.{book, IsReached, MeetsEquation}
 use Rattle.relay_core.specs.Relay.{AllDone}
 use Rattle.relay_core.specs.State.{Relay}
-use Rattle.sector_job.specs.EqualPlans.{same_family, families_decide}
-use Rattle.relay_core.proofs.Found.{from_map}
+use Rattle.family.proofs.SameFamily.{same_family, families_decide}
+use Rattle.ibp_base.proofs.Members.{from_map}
 use Rattle.sector_job.specs.Candidates.{Integral}
 use Rattle.sector_job.specs.Outcomes.{IsOutcome}
 use Rattle.sector_job.specs.Results.{ResultValue, IsResult, opening_of, tails_of_plan}
@@ -86,7 +86,7 @@ module _ (family : FamilyData) (books : List Integral) (pieces : List ResultValu
   done_is_reached : (sector : ℕ) → Contains (pieces_sectors pieces) sector → IsReached sector books
   done_is_reached sector inside =
       let found = from_map (λ (piece : ResultValue). piece.sector.0) pieces sector inside in
-      subst (λ s. IsReached s books) found.2 (All-contains (λ (piece : ResultValue). IsReached piece.sector.0 books) pieces found.0 closed.reached found.1)
+      subst (λ s. IsReached s books) found.1.1 (All-contains (λ (piece : ResultValue). IsReached piece.sector.0 books) pieces found.0 closed.reached found.1.0)
 
   pub are_works : (works : List SectorWork) → AllZip (IsWorkOf family) pieces works → AreWorks family books works
   are_works works all =
@@ -111,7 +111,7 @@ module _ (family : FamilyData) (books : List Integral) (pieces : List ResultValu
     work = record { sector = sector; fields = generators.fields; seeds = is.1.seeds; candidates = candidates; tails = tails };
     of_sector = refl;
     is_work = subst (λ (ts : List Integral). IsWorkFor family ts (record { sector = sector; fields = generators.fields; seeds = is.1.seeds; candidates = candidates; tails = tails })) same
-        (record { are_seeds = is.1.are_seeds; worked = is.1 });
+        (record { worked = is.1; with_seeds = refl });
   }
   worked_out_as sector targets outcome.PairsSpent at same none is = absurd (cc)
   worked_out_as sector targets outcome.DegreeOver at same none is = absurd (cc)

@@ -1,6 +1,5 @@
 -- One more label, seed and piece of what is gathered.
 use Rattle.std.proofs.Common.{◌≡◌, ℕ, ◌+◌, ◌<◌, List, [], ◌∷◌, ◌++◌, length, get_or, take, append_assoc, refl, sym, ◌∙◌, ap, subst, arith}
-use Rattle.std.specs.Prelude.{map}
 use Rattle.std.specs.List.{AllZip}
 use Rattle.std.proofs.lemmas.List.{take_more, map_push, flat_map_more}
 use Rattle.std.proofs.lemmas.List.FromFn.{map-range_with_len_more}
@@ -16,6 +15,7 @@ use Rattle.family.specs.FamilyData.{FamilyData}
 use Rattle.neat_system.specs.declared.gathering.Gathered.{Gathered}
 use Rattle.neat_system.specs.Gathering.{IsWorkOf, Gains, Gathers}
 use Rattle.neat_system.specs.System.{SectorWork, block_of}
+use Rattle.neat_system.proofs.WorkSeeds.{same_seeds}
 
 -- one more element of a list, by what a loop reads
 pub taken : {X : Type 0} (xs : List X) (i : ℕ) (x : X) → i < length xs → x ≡ get_or xs i x → take (i + 1) xs ≡ take i xs ++ x ∷ []
@@ -60,7 +60,9 @@ piece_work family piece found generators candidates tails seeds targets sector s
     record {
       of_sector = refl;
       is_work = record {
-        are_seeds = subst (λ (ts : List Integral). AreSeedsFor family piece.sector.0 ts seeds) for (subst (λ s. AreSeedsFor family s targets seeds) at are_seeds);
         worked = outcome.1;
+        with_seeds = same_seeds family piece.sector.0 piece.targets seeds outcome.1.seeds
+            (subst (λ (ts : List Integral). AreSeedsFor family piece.sector.0 ts seeds) for (subst (λ s. AreSeedsFor family s targets seeds) at are_seeds))
+            outcome.1.are_seeds;
       };
     }

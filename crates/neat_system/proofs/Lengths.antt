@@ -11,7 +11,6 @@ use Rattle.family.specs.FamilyData.{FamilyData}
 use Rattle.family.specs.declared.parts.StrippedField.{StrippedField}
 use Rattle.sector_job.specs.Candidates.{Integral, labels, labels_at}
 use Rattle.sector_job.specs.Outcomes.{FitsTargets}
-use Rattle.sector_job.specs.OneOutcome.{one_ascending}
 use Rattle.sector_job.specs.Results.{ResultValue}
 use Rattle.neat_system.specs.Gathering.{IsWorkOf}
 use Rattle.neat_system.specs.System.{SectorWork, IsWorkFor, all_candidates, all_labels}
@@ -30,17 +29,12 @@ length-labels count (seed ∷ seeds) =
     length-append (labels_at count seed) (labels count seeds) ∙ (let e : length (labels_at count seed) + length (labels count seeds) ≡ count * suc (length seeds) = grind arith in e)
 
 module _ (family : FamilyData) where
-  same_seeds : (targets : List Integral) (work : SectorWork) (is : IsWorkFor family targets work) → work.seeds ≡ is.worked.seeds
-  same_seeds targets work is =
-      one_ascending work.seeds is.worked.seeds is.are_seeds.ascending is.worked.are_seeds.ascending
-      (λ z inside. (is.worked.are_seeds.members z).1 ((is.are_seeds.members z).0 inside)) (λ z inside. (is.are_seeds.members z).1 ((is.worked.are_seeds.members z).0 inside))
-
   -- the fields at the seeds are within the budget
   pub within_budget : (targets : List Integral) (work : SectorWork) → IsWorkFor family targets work → length work.fields * length work.seeds ≤ family.budget.candidates
-  within_budget targets work is = subst (λ (seeds : List Integral). length work.fields * length seeds ≤ family.budget.candidates) (sym (same_seeds targets work is)) is.worked.within
+  within_budget targets work is = subst (λ (seeds : List Integral). length work.fields * length seeds ≤ family.budget.candidates) (sym is.with_seeds) is.worked.within
 
   as_many : (targets : List Integral) (work : SectorWork) → IsWorkFor family targets work → length (labels (length work.fields) work.seeds) ≡ length work.candidates
-  as_many targets work is = ap (λ seeds. length (labels (length work.fields) seeds)) (same_seeds targets work is) ∙ zip_length _ _ _ is.worked.are_candidates
+  as_many targets work is = ap (λ seeds. length (labels (length work.fields) seeds)) is.with_seeds ∙ zip_length _ _ _ is.worked.are_candidates
 
   few_of_work : (targets : List Integral) (work : SectorWork) → IsWorkFor family targets work → length work.candidates ≤ family.budget.candidates
   few_of_work targets work is =

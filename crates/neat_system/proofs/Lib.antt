@@ -9,3 +9,8 @@ pub mod Reducing
 pub mod Running
 pub mod TargetRows
 pub mod SomeAnswer
+pub mod BasisFields
+pub mod NoRise
+pub mod SystemRelations
+pub mod SystemRows
+pub mod WorkSeeds

@@ -16,17 +16,18 @@ use Rattle.relation_pick.specs.Picking.{IsPick}
 use Rattle.relation_pick.proofs.Uniqueness.{IsPick-unique}
 use Rattle.relay_core.specs.Family.{book, IsReached}
 use Rattle.relay_core.proofs.Facts.{one_family}
-use Rattle.relay_core.proofs.Members.{same_members}
-use Rattle.relay_core.proofs.Found.{from_map}
+use Rattle.ibp_base.proofs.Ascending.{same_members}
+use Rattle.ibp_base.proofs.Members.{from_map}
 use Rattle.sector_job.specs.Candidates.{Integral, AreSeedsFor}
 use Rattle.sector_job.specs.Outcomes.{IsOutcome, AreTailsOf, IsWorked, tails_in}
-use Rattle.sector_job.specs.OneOutcome.{one_outcome, one_ascending}
+use Rattle.sector_job.specs.OneOutcome.{one_outcome}
 use Rattle.sector_job.specs.PieceLaws.{opened, lawful}
 use Rattle.sector_job.specs.declared.outcome.Outcome.{Outcome}
 use Rattle.sector_job.specs.declared.outcome.Outcome.TheVariants.{Worked, PairsSpent, DegreeOver, CandidatesOver}
 use Rattle.system_text.specs.declared.value.System.{System}
 use Rattle.neat_system.specs.System.{AreBooks, SectorWork, IsSectorWork, sectors_of, AreWorks, all_candidates, all_labels, block_of, relation_at, IsSystem, IsWorkedOut, IsFault}
 use Rattle.neat_system.specs.Reductions.{declared_row, reductions_of}
+use Rattle.neat_system.proofs.WorkSeeds.{seeds_of, same_seeds}
 
 -- lists with equal keys are equal where an element is told by its key
 by_keys : {X K : Type 0} (key : X → K) (P : X → Type 0) → ((x y : X) → key x ≡ key y → P x → P y → x ≡ y) → (xs ys : List X) → map key xs ≡ map key ys → AllByRecursion P xs → AllByRecursion P ys → xs ≡ ys
@@ -89,10 +90,10 @@ module _ (family : FamilyData) (within : DataWithin family) where
         (sym same, subst (λ s. IsWorked family s (book s books) second.fields second.candidates second.tails) (sym same) two.worked)
         in
         let outcomes : worked_as first ≡ worked_as second = one_outcome family within first.sector (book first.sector books) (worked_as first) (worked_as second) (refl, one.worked) other in
-        let seeds_of : AreSeedsFor family first.sector (book first.sector books) second.seeds = subst (λ s. AreSeedsFor family s (book s books) second.seeds) (sym same) two.are_seeds in
         let seeds : first.seeds ≡ second.seeds =
-        one_ascending first.seeds second.seeds one.are_seeds.ascending seeds_of.ascending
-        (λ z inside. (seeds_of.members z).1 ((one.are_seeds.members z).0 inside)) (λ z inside. (one.are_seeds.members z).1 ((seeds_of.members z).0 inside))
+        same_seeds family first.sector (book first.sector books) first.seeds second.seeds
+        (seeds_of family (book first.sector books) first one)
+        (subst (λ s. AreSeedsFor family s (book s books) second.seeds) (sym same) (seeds_of family (book second.sector books) second two))
         in
         λ i. record { sector = same i; fields = fields_in (outcomes i); seeds = seeds i; candidates = candidates_in (outcomes i); tails = tails_in (outcomes i) }
 
@@ -116,7 +117,7 @@ module _ (family : FamilyData) (within : DataWithin family) where
     worked_out : (works : List SectorWork) → AreWorks family books works → (sector : ℕ) → IsReached sector books → IsWorkedOut family books sector
     worked_out works are sector reached =
         let found = from_map (λ (work : SectorWork). work.sector) works sector ((are.reached sector).1 reached) in
-        record { work = found.0; of_sector = found.2; is_work = All-contains (IsSectorWork family books) works found.0 are.each found.1 }
+        record { work = found.0; of_sector = found.1.1; is_work = All-contains (IsSectorWork family books) works found.0 are.each found.1.0 }
 
   pub never_both : (system : System) (sector : ℕ) (outcome : Outcome) → IsFault family sector outcome → IsSystem family system → ⊥
   never_both system sector outcome fault is =

@@ -9,7 +9,7 @@ use Rattle.std.proofs.lemmas.List.Elements.{Contains-get_or}
 use Rattle.ibp_algebra.specs.FormalSum.{FormalSum}
 use Rattle.ibp_algebra.proofs.Members.{AllKeys-counting}
 use Rattle.relation_pick.specs.Picking.{IsInBasis, IsWritten, AllAnswers, IsPick}
-use Rattle.neat_system.proofs.Numbers.{few_below}
+use Rattle.relation_pick.proofs.Places.{few_below}
 
 module _ {K : Type 0} (order : K → K → Ordering) (candidates : List (FormalSum K)) where
   -- a written place is one of a candidate

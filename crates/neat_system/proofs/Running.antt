@@ -19,11 +19,11 @@ use Rattle.relay_core.proofs.Counts.{one_more}
 use Rattle.relay_core.proofs.Facts.{lie_between, done_few}
 use Rattle.relay_core.proofs.Kept.{replays_more}
 use Rattle.relay_core.proofs.LastEvent.{replays_none}
-use Rattle.relay_core.proofs.Members.{from_filter}
+use Rattle.ibp_base.proofs.Members.{from_filter}
 use Rattle.relay_core.proofs.SectorBooks.{a_member}
 use Rattle.relay_core.proofs.Sound.{IsSound, replay_sound}
 use Rattle.sector_job.specs.Candidates.{Integral}
-use Rattle.sector_job.specs.EqualPlans.{same_family, families_decide}
+use Rattle.family.proofs.SameFamily.{same_family, families_decide}
 use Rattle.sector_job.specs.PieceLaws.{opened, lawful}
 use Rattle.sector_job.specs.Results.{ResultValue, opening_of, tails_of_plan}
 use Rattle.sector_job.proofs.TailsNotZero.{tails_not_zero}

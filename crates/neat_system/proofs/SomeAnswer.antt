@@ -1,9 +1,9 @@
 -- A family within the limits of a file has a system or a fault.
-use Rattle.std.proofs.Common.{◌≡◌, ◌⊎◌, inl, inr, ℕ, zero, suc, ◌+◌, ◌<◌, Bool, true, false, true≢false, List, [], ◌∷◌, map, length, get_or, refl, sym, ◌∙◌, ap, subst, arith}
+use Rattle.std.proofs.Common.{◌≡◌, ◌⊎◌, inl, inr, ℕ, zero, suc, ◌<◌, Bool, true, false, true≢false, List, [], ◌∷◌, map, length, get_or, refl, sym, ◌∙◌, subst, arith}
 use Rattle.std.specs.Prelude.{Contains, not, Option, None, Some}
-use Rattle.std.specs.List.{All, AllByRecursion, AllZip}
+use Rattle.std.specs.List.{AllByRecursion, AllZip}
 use Rattle.std.specs.List.Sorted.{IsStrictlySortedBy}
-use Rattle.std.proofs.lemmas.List.Elements.{All-weaker, All-contains_itself, All-from_recursion, recursion_from_All, All-contains}
+use Rattle.std.proofs.lemmas.List.Elements.{All-weaker, All-contains_itself, All-from_recursion}
 use Rattle.std.proofs.lemmas.List.Kept.{IsStrictlySortedBy-filter}
 use Rattle.ibp_base.proofs.Ascending.{sorted_none}
 use Rattle.ibp_base.proofs.Members.{in_none, in_map, from_map, from_filter, by_recursion_each}
@@ -15,7 +15,6 @@ use Rattle.sector_lattice.specs.declared.sector.Sector.{Sector}
 use Rattle.sparse_rows.specs.Rows.{is_zero_integral}
 use Rattle.family.specs.Conditions.{is_zero_sector}
 use Rattle.family.specs.FamilyData.{FamilyData}
-use Rattle.family.specs.FamilyView.{family_view}
 use Rattle.family.specs.Within.{DataWithin}
 use Rattle.relation_pick.proofs.SomePick.{some_pick}
 use Rattle.relay_core.specs.Family.{book, IsReached, AreLawful}
@@ -32,7 +31,7 @@ use Rattle.sector_job.proofs.SomeOutcome.{some_outcome}
 use Rattle.sector_job.proofs.TailsNotZero.{tails_not_zero}
 use Rattle.system_text.specs.declared.value.System.{System}
 use Rattle.neat_system.specs.declared.fault.SystemFault.{SystemFault}
-use Rattle.neat_system.specs.Answer.{fault_in}
+use Rattle.neat_system.specs.Answer.{fault_in, HasFault}
 use Rattle.neat_system.specs.Gathering.{IsPieceOf, IsWorkedPiece, IsWorkOf, IsFirstFault, fault_of}
 use Rattle.neat_system.specs.Reductions.{declared_row, reductions_of}
 use Rattle.neat_system.specs.System.{AreBooks, SectorWork, IsWorkFor, all_candidates, all_labels, block_of, relation_at, IsSystem, IsFault}
@@ -75,7 +74,7 @@ work_by : (family : FamilyData) (sector : Sector) (targets : List Integral) (res
 work_by family sector targets (outcome.Worked generators candidates tails) none is = (
   record { sector = sector.0; fields = generators.fields; seeds = is.1.seeds; candidates = candidates; tails = tails },
   refl,
-  record { are_seeds = is.1.are_seeds; worked = is.1 },
+  record { worked = is.1; with_seeds = refl },
 )
 work_by family sector targets outcome.PairsSpent none is = absurd (cc)
 work_by family sector targets outcome.DegreeOver none is = absurd (cc)
@@ -261,3 +260,16 @@ module _ (family : FamilyData) (within : DataWithin family) where
       let sectors = reached_sectors books.0 books.1 books.2 in
       let pieces = some_zip (IsPieceAt books.0 books.1 books.2) sectors.0 (λ sector inside. piece_at books.0 books.1 books.2 sector (sectors.1.reached sector inside)) in
       answered books.0 books.1 books.2 sectors.0 sectors.1 pieces.0 pieces.1
+
+three_faults : (family : FamilyData) (sector : ℕ) (result : Outcome) → IsUnworked result → IsFault family sector result → HasFault family
+three_faults family sector (outcome.Worked generators candidates tails) not is = absurd not
+three_faults family sector outcome.PairsSpent not is = (sector, inl is)
+three_faults family sector outcome.DegreeOver not is = (sector, inr (inl is))
+three_faults family sector outcome.CandidatesOver not is = (sector, inr (inr is))
+
+pub system_or_fault : (family : FamilyData) → DataWithin family → ((system : System) × IsSystem family system) ⊎ HasFault family
+system_or_fault family within =
+    elim (some_answer family within) [
+      | inl system ↦ inl system
+      | inr fault ↦ inr (three_faults family fault.0 fault.1 fault.2 fault.3)
+    ]

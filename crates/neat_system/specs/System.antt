@@ -25,7 +25,7 @@ use Rattle.family.specs.FamilyData.{FamilyData}
 use Rattle.family.specs.declared.parts.StrippedField.{StrippedField}
 use Rattle.relation_pick.specs.Picking.{IsPick}
 use Rattle.relay_core.specs.Family.{book, IsReached, MeetsEquation}
-use Rattle.sector_job.specs.Candidates.{Integral, Label, labels, AreSeedsFor}
+use Rattle.sector_job.specs.Candidates.{Integral, Label, labels}
 use Rattle.sector_job.specs.Outcomes.{IsWorked, IsOutcome, AreTailsOf, opening_targets}
 use Rattle.sector_job.specs.declared.outcome.Outcome.{Outcome}
 use Rattle.system_text.specs.declared.value.SectorBlock.{SectorBlock}
@@ -43,10 +43,10 @@ pub record SectorWork : Type 0 where
   pub candidates : List IntegralSum
   pub tails : List Integral
 
--- what the sector comes to for these targets, where it is worked
+-- what the sector comes to for these targets, where it is worked, with the seeds that its candidates are made at
 pub record IsWorkFor (family : FamilyData) (targets : List Integral) (work : SectorWork) : Type 0 where
-  pub are_seeds : AreSeedsFor family work.sector targets work.seeds
   pub worked : IsWorked family work.sector targets work.fields work.candidates work.tails
+  pub with_seeds : work.seeds ≡ worked.seeds
 
 -- the sector is worked for its book
 abbrev pub IsSectorWork : FamilyData → List Integral → SectorWork → Type 0

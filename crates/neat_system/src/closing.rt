@@ -1,12 +1,8 @@
 // The system of a relay in which each reached sector is done.
-ghost use Rattle.std.specs.Prelude.{◌≡◌, ◌≢◌, ◌↔◌, ◌<◌, ◌^◌, Ok, Err, IfOk, length};
+ghost use Rattle.std.specs.Prelude.{◌≡◌, ◌<◌, ◌^◌, IfOk, length};
 ghost use Rattle.family.specs.FamilyView.{family_view};
 ghost use Rattle.relay_core.specs.Relay.{AllDone};
-ghost use Rattle.sector_job.specs.declared.outcome.Outcome.TheVariants as outcome;
-ghost use Rattle.system_text.specs.declared.value.System.{System};
-ghost use Rattle.sector_lattice.specs.declared.sector.Sector.{Sector};
-ghost use Rattle.neat_system.specs.System.{IsSystem, IsFault};
-ghost use Rattle.neat_system.specs.Answer.{IsAnswer};
+ghost use Rattle.neat_system.specs.Answer.{IsAnswer, IsAnswerFor};
 ghost use Rattle.neat_system.specs.Gathering.{Writes};
 
 use crate::declared::declared_rows;
@@ -69,13 +65,7 @@ fn answer(alloc: Global, state: &RelayState<SectorResult>) -> Result<System, Sys
 /// small-size integration-by-parts relations for Feynman integrals" (2023).
 pub fn close(alloc: Global, state: &RelayState<SectorResult>) -> Result<System, SystemFault>
     requires closed { AllDone state.now.progress }
-    ensures system { IfOk result (IsSystem (family_view state.now.plan)) }
-
-    // Where memory is found, the family's system or its fault is the answer.
-    ensures complete { (system : System) → IsSystem (family_view state.now.plan) system → result ≢ Err SystemFault.NoMemory → result ≡ Ok system }
-    ensures pairs { (sector : Sector) → result ≢ Err SystemFault.NoMemory → (result ≡ Err (SystemFault.PairsSpent sector)) ↔ IsFault (family_view state.now.plan) sector.0 outcome.PairsSpent }
-    ensures degree { (sector : Sector) → result ≢ Err SystemFault.NoMemory → (result ≡ Err (SystemFault.DegreeOver sector)) ↔ IsFault (family_view state.now.plan) sector.0 outcome.DegreeOver }
-    ensures candidates { (sector : Sector) → result ≢ Err SystemFault.NoMemory → (result ≡ Err (SystemFault.CandidatesOver sector)) ↔ IsFault (family_view state.now.plan) sector.0 outcome.CandidatesOver }
+    ensures { IsAnswerFor (family_view state.now.plan) result }
 {
     answer(alloc, state)
 }

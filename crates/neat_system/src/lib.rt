@@ -15,6 +15,3 @@ mod relations;
 pub use closing::close;
 pub use fault::SystemFault;
 pub use plain::run_plain;
-
-#[cfg(test)]
-mod tests;

@@ -1,12 +1,9 @@
 // The system of a family, worked out on one thread.
-ghost use Rattle.std.specs.Prelude.{◌≡◌, ◌≢◌, ◌↔◌, Ok, Err, IfOk, OnOk};
+ghost use Rattle.std.specs.Prelude.{◌≡◌, IfOk, OnOk};
 ghost use Rattle.std.specs.Bool.{OnTrue, OnFalse};
 ghost use Rattle.family.specs.FamilyView.{family_view};
 ghost use Rattle.relay_core.specs.Relay.{AllDone};
-ghost use Rattle.sector_job.specs.declared.outcome.Outcome.TheVariants as outcome;
-ghost use Rattle.system_text.specs.declared.value.System.{System};
-ghost use Rattle.sector_lattice.specs.declared.sector.Sector.{Sector};
-ghost use Rattle.neat_system.specs.System.{IsSystem, IsFault};
+ghost use Rattle.neat_system.specs.Answer.{IsAnswerFor};
 ghost use Rattle.neat_system.specs.Running.{IsUnderWay, Advances};
 
 use crate::closing::close;
@@ -73,15 +70,10 @@ pub fn worked_through(alloc: Global, family: &Family) -> Result<RelayState<Secto
     Ok(state)
 }
 
-/// The system of a family, as `close` gives it, with all reached sectors worked on one thread.
+/// The system of a family, as `close` gives it, with all reached sectors worked on one thread. Where a reached sector
+/// isn't worked, the first such sector in sector order is the fault.
 pub fn run_plain(alloc: Global, family: &Family) -> Result<System, SystemFault>
-    ensures system { IfOk result (IsSystem (family_view family.now)) }
-
-    // Where memory is found, the family's system or its fault is the answer.
-    ensures complete { (system : System) → IsSystem (family_view family.now) system → result ≢ Err SystemFault.NoMemory → result ≡ Ok system }
-    ensures pairs { (sector : Sector) → result ≢ Err SystemFault.NoMemory → (result ≡ Err (SystemFault.PairsSpent sector)) ↔ IsFault (family_view family.now) sector.0 outcome.PairsSpent }
-    ensures degree { (sector : Sector) → result ≢ Err SystemFault.NoMemory → (result ≡ Err (SystemFault.DegreeOver sector)) ↔ IsFault (family_view family.now) sector.0 outcome.DegreeOver }
-    ensures candidates { (sector : Sector) → result ≢ Err SystemFault.NoMemory → (result ≡ Err (SystemFault.CandidatesOver sector)) ↔ IsFault (family_view family.now) sector.0 outcome.CandidatesOver }
+    ensures { IsAnswerFor (family_view family.now) result }
 {
     let state = worked_through(alloc, family)?;
     close(alloc, &state)

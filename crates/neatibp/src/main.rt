@@ -1,20 +1,8 @@
 //! Integration-by-parts relations of families of Feynman integrals, written by their Baikov polynomials.
 #![tactic(auto)]
 
-mod answer;
-mod input;
-mod laws;
-mod output;
-mod refusal;
-mod run;
-mod status;
-#[cfg(test)]
-mod tests;
-mod words;
-
+use commands::{Status, run_calm, status_text};
 use ibp_outside::{StdSink, StdSource};
-use run::run_calm;
-use status::{Status, status_text};
 use std::process::ExitCode;
 use std::rt::Env;
 use std::{env, io};

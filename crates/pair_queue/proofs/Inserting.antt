@@ -6,27 +6,18 @@ use Rattle.std.specs.Ordering.{nat_cmp, ordering_then, is_lt, match_ordering}
 use Rattle.std.specs.declared.cmp.Ordering.{Ordering}
 use Rattle.std.specs.declared.cmp.Ordering.TheVariants.{Less, Equal, Greater}
 use Rattle.std.specs.BTreeSet.{insert_key}
+use Rattle.ibp_algebra.specs.ExponentOrder.{first_equal, second_equal}
 use Rattle.mono_order.specs.Term.{Term}
 use Rattle.pair_queue.specs.declared.queue.Pair.{Pair}
 use Rattle.pair_queue.specs.Pairs.{compare_pairs, insert_pair}
 
-first_tied : (r s : Ordering) → ordering_then r s ≡ Equal → r ≡ Equal
-first_tied Less s e = e
-first_tied Equal s e = refl
-first_tied Greater s e = e
-
-second_tied : (r s : Ordering) → ordering_then r s ≡ Equal → s ≡ Equal
-second_tied Less s e = cc
-second_tied Equal s e = e
-second_tied Greater s e = cc
-
 -- pairs that tie are equal
 compare_pairs_unique : (order : Term → Term → Ordering) → IsAntisymmetric order → (p q : Pair) → compare_pairs order p q ≡ Equal → p ≡ q
 compare_pairs_unique order unique p q e =
-    let numbers = second_tied (order p.lcm q.lcm) (ordering_then (nat_cmp p.second q.second) (nat_cmp p.first q.first)) e in
-    let lcms = unique p.lcm q.lcm (first_tied (order p.lcm q.lcm) _ e) in
-    let seconds = nat_cmp-IsAntisymmetric p.second q.second (first_tied _ (nat_cmp p.first q.first) numbers) in
-    let firsts = nat_cmp-IsAntisymmetric p.first q.first (second_tied (nat_cmp p.second q.second) _ numbers) in
+    let numbers = second_equal (order p.lcm q.lcm) (ordering_then (nat_cmp p.second q.second) (nat_cmp p.first q.first)) e in
+    let lcms = unique p.lcm q.lcm (first_equal (order p.lcm q.lcm) _ e) in
+    let seconds = nat_cmp-IsAntisymmetric p.second q.second (first_equal _ (nat_cmp p.first q.first) numbers) in
+    let firsts = nat_cmp-IsAntisymmetric p.first q.first (second_equal (nat_cmp p.second q.second) _ numbers) in
     λ k. record { first = firsts k; second = seconds k; lcm = lcms k }
 
 -- at a pair of the list that does not tie

@@ -159,34 +159,3 @@ impl<O: TermOrder> PairQueue<O> {
         Some(pair)
     }
 }
-
-#[cfg(test)]
-mod tests {
-    use super::*;
-    use mono_order::{Monomial, ZeroDominates};
-    use std::test::Fail;
-
-    fn is_shared<T: Send + Sync>() {}
-
-    #[test]
-    fn ties_go_to_the_lower_second_number_and_then_to_the_lower_first(
-        rt: HostRuntime,
-    ) -> Result<(), Fail> {
-        is_shared::<Pair>();
-        let lcm = Term {
-            component: 0,
-            monomial: Monomial::variable(1),
-        };
-        let pair = |first, second| Pair { first, second, lcm };
-        let mut queue = PairQueue::<ZeroDominates>::empty(rt.alloc());
-        queue.push(pair(2, 3))?;
-        queue.push(pair(1, 3))?;
-        queue.push(pair(1, 2))?;
-        assert!(rt; queue.len() == 3);
-        assert!(rt; queue.pop() == Some(pair(1, 2)));
-        assert!(rt; queue.pop() == Some(pair(1, 3)));
-        assert!(rt; queue.pop() == Some(pair(2, 3)));
-        assert!(rt; queue.pop().is_none());
-        Ok(())
-    }
-}

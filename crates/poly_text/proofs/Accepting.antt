@@ -3,8 +3,9 @@ use Rattle.std.proofs.Common.{◌≡◌, ℕ, List, [], ◌∷◌, refl, ap, ◌
 use Rattle.std.specs.Prelude.{Some}
 use Rattle.poly_text.specs.Token.{Token}
 use Rattle.poly_text.specs.Tree.{Tree, IsSum, IsProduct, IsFactor, IsPrimary, IsText}
-use Rattle.poly_text.specs.Grammar.{Terms, Factors, Level, Position, State, empty_level, product_with, whole_sum, run, complete_at}
-use Rattle.poly_text.specs.Laws.{accepts, complete_run}
+use Rattle.poly_text.specs.Grammar.{Terms, Factors, Level, Position, State, empty_level, product_with, whole_sum, complete_at}
+use Rattle.poly_text.proofs.Accepts.{run}
+use Rattle.poly_text.proofs.Accepts.{accepts, complete_run}
 
 abbrev pub Tokens : Type 0
 Tokens = List (Token × ℕ)

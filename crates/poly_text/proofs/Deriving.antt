@@ -3,9 +3,10 @@ use Rattle.std.proofs.Common.{◌≡◌, ℕ, List, [], ◌∷◌, ◌++◌, ref
 use Rattle.std.specs.Prelude.{Option, Some, None, IsSome}
 use Rattle.poly_text.specs.Token.{Token}
 use Rattle.poly_text.specs.Tree.{Tree, IsSum, IsProduct, IsFactor, IsPrimary, IsText}
-use Rattle.poly_text.specs.Grammar.{Terms, Factors, Level, Position, State, empty_level, first_state, product_with, sum_with, whole_sum, next, next_at, closed, run, run_next, complete_at}
+use Rattle.poly_text.specs.Grammar.{Terms, Factors, Level, Position, State, empty_level, first_state, product_with, sum_with, whole_sum, next, next_at, closed, complete_at}
+use Rattle.poly_text.proofs.Accepts.{run, run_next}
 use Rattle.poly_text.specs.Faults.{IsFront}
-use Rattle.poly_text.specs.Laws.{accepts, complete_run}
+use Rattle.poly_text.proofs.Accepts.{accepts, complete_run}
 use Rattle.poly_text.proofs.Accepting.{Tokens, state_at, level_of, text_accepted}
 
 -- what the terms and the factors that were read make of what follows

@@ -8,12 +8,16 @@ use Rattle.std.proofs.lemmas.Bool.Decides.{Decides-eqb, not_from_Decides}
 use Rattle.ibp_algebra.specs.Polynomial.{Polynomial}
 use Rattle.poly_text.specs.declared.fault.TextFault.{TextFault}
 use Rattle.poly_text.specs.declared.limits.TheConstants.{POWER_LIMIT, DEPTH_LIMIT}
-use Rattle.poly_text.specs.Token.{Token, tokens}
+use Rattle.poly_text.specs.Token.{Token}
+use Rattle.poly_text.specs.Scanning.{tokens}
 use Rattle.poly_text.specs.Tree.{Tree, IsText}
-use Rattle.poly_text.specs.Grammar.{Level, Position, State, first_state, is_exponent, next, next_at, closed, run, run_next, complete, form_fault, after_next, then_state, whole_tree, tree_from, tree_of}
+use Rattle.poly_text.specs.Grammar.{Level, Position, State, first_state, is_exponent, next, next_at, closed, complete, form_fault, after_next, then_state, whole_tree, tree_from, tree_of}
+use Rattle.poly_text.proofs.Accepts.{run, run_next}
 use Rattle.poly_text.specs.Faults.{IsFront, IsAllowed, EndsWithPower, is_opening, is_closing, open_count, IsTokenFault, HasNoTokenFault, IsFirstFault}
-use Rattle.poly_text.specs.Laws.{accepts, complete_run, IsTextAnswer}
-use Rattle.poly_text.specs.PolyText.{names_of, is_known, tree_value, text_answer}
+use Rattle.poly_text.proofs.Accepts.{accepts, complete_run}
+use Rattle.poly_text.specs.PolyText.{IsTextAnswer}
+use Rattle.poly_text.specs.PolyText.{names_of, is_known}
+use Rattle.poly_text.specs.Answer.{tree_value, text_answer}
 use Rattle.poly_text.proofs.Spelling.{tokens_are, spelled}
 use Rattle.poly_text.proofs.Places.{last_same, none_in_nothing, none_in_one_more, first_fault_unique, no_first_fault}
 use Rattle.poly_text.proofs.Accepting.{Tokens, text_accepted}

@@ -3,10 +3,13 @@ pub mod Values
 pub mod TermMaps
 pub mod RunningSums
 pub mod Scanning
+pub mod MovedPlaces
 pub mod Simulation
 pub mod Steps
+pub mod Accepts
 pub mod Accepting
 pub mod Deriving
 pub mod Spelling
 pub mod Places
 pub mod Faulting
+pub mod Answering

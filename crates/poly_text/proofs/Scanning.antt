@@ -7,10 +7,12 @@ use Rattle.std.proofs.lemmas.Bool.{lt-ltb, ltb-false, lt-leb, le-leb}
 use Rattle.std.proofs.lemmas.Bool.Decides.{Decides-eqb, leb_tells, not_from_Decides}
 use Rattle.std.proofs.lemmas.List.{drop_all}
 use Rattle.mono_order.specs.declared.limits.TheConstants.{VARIABLES}
+use Rattle.ibp_base.proofs.Tests.{and_true}
 use Rattle.poly_text.specs.declared.symbol.Named.{Named}
 use Rattle.poly_text.specs.Value.{variable_exponents}
 use Rattle.poly_text.specs.PolyText.{is_variable_name}
-use Rattle.poly_text.specs.Token.{Token, is_blank, whole_value, further_bytes, token_of, tokens_from}
+use Rattle.poly_text.specs.Token.{Token, is_blank, whole_value}
+use Rattle.poly_text.specs.Scanning.{further_bytes, token_of, tokens_from}
 use Rattle.poly_text.specs.Symbols.{limited, named_variable}
 
 abbrev pub digit_step : ℕ → ℕ → ℕ
@@ -60,10 +62,6 @@ second_passes false y e = absurd (cc)
 false_from : (b : Bool) → ¬ (b ≡ true) → b ≡ false
 false_from true h = absurd (h refl)
 false_from false h = refl
-
-and_true : (x y : Bool) → x ≡ true → y ≡ true → (x && y) ≡ true
-and_true true y e f = f
-and_true false y e f = e
 
 digit_from : (d : ℕ) → is_ascii_digit d ≡ true → 48 ≤ d
 digit_from d e = grind (arith, leb_tells)

@@ -1,12 +1,13 @@
 -- `tokens` computes how bytes spell tokens.
-use Rattle.std.proofs.Common.{◌≡◌, ℕ, zero, suc, ◌+◌, ◌≤◌, ◌↔◌, List, [], ◌∷◌, ◌++◌, length, drop, take, Bool, true, false, cond, refl, sym, ap, subst, ◌∙◌, arith, length-append}
+use Rattle.std.proofs.Common.{◌≡◌, ℕ, zero, suc, ◌+◌, ◌≤◌, List, [], ◌∷◌, ◌++◌, length, drop, take, Bool, true, false, cond, refl, sym, ap, subst, ◌∙◌, arith, length-append}
 use Rattle.std.specs.Prelude.{◌<◌, ◌==◌, ◌&&◌, ◌||◌, nat_le, Option, None, is_some, option_map}
 use Rattle.std.specs.Char.{is_ascii_digit}
 use Rattle.std.specs.List.{list_all, prefix_len}
 use Rattle.std.proofs.lemmas.Bool.{leb-true}
 use Rattle.std.proofs.lemmas.Bool.Decides.{Decides-eqb, leb_tells, eqb_tells}
 use Rattle.std.proofs.Math.Seq.{take-append_seam, drop-append_seam}
-use Rattle.poly_text.specs.Token.{Token, is_blank, is_initial, is_word, whole_value, symbol_of, further_bytes, token_of, tokens_from, tokens}
+use Rattle.poly_text.specs.Token.{Token, is_blank, is_initial, is_word, whole_value, symbol_of}
+use Rattle.poly_text.specs.Scanning.{further_bytes, token_of, tokens_from, tokens}
 use Rattle.poly_text.specs.Spelling.{begins_with, IsToken, AreTokens}
 use Rattle.mono_order.specs.declared.limits.TheConstants.{VARIABLES}
 use Rattle.poly_text.specs.declared.limits.TheConstants.{NAME_LIMIT}
@@ -142,9 +143,6 @@ are_tokens (suc most) (b ∷ bytes) at few = go (is_blank b) refl (λ others pla
 
 pub spelled : (bytes : List ℕ) → AreTokens 0 bytes (tokens bytes)
 spelled bytes = are_tokens (length bytes) bytes 0 (omega arith)
-
-pub tokens_spelled : (bytes : List ℕ) (ts : List (Token × ℕ)) → (tokens bytes ≡ ts) ↔ AreTokens 0 bytes ts
-tokens_spelled bytes ts = (λ e. subst (λ (l : List (Token × ℕ)). AreTokens 0 bytes l) e (spelled bytes), λ h. tokens_are h)
 
 -- names that are too long
 pub long_unknown : (n : ℕ) (number : List ℕ → Option ℕ) (word : List ℕ) → n ≤ VARIABLES → NAME_LIMIT < length word → is_known n number word ≡ false

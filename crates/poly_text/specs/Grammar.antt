@@ -1,7 +1,6 @@
--- Reading a text token by token, from the left. After each token a state says what may follow: it has the
+-- The reader's own: reading a text token by token, from the left. After each token a state says what may follow: it has the
 -- trees of what was read, and it is stuck at the first token with which no text of the grammar goes on.
 --     next state token          the state after one more token of the grammar
---     run state ts              the state after these tokens, unless one of them is stuck
 --     complete state            the tree, where the text may end here
 --     form_fault known ..       what is wrong with a token that the grammar allows
 --     tree_of known end ts      the tree of these tokens, or the first fault of their form
@@ -105,14 +104,6 @@ next_at (Position.exponent t q) level outer token = next_exponent t q level oute
 
 abbrev pub next : State → Token × ℕ → Option State
 next state token = next_at state.position state.level state.outer token
-
-abbrev pub run_next : Option State → (State → Option State) → Option State
-run_next None others = None
-run_next (Some state) others = others state
-
-abbrev pub run : State → List (Token × ℕ) → Option State
-run state [] = Some state
-run state (token ∷ ts) = run_next (next state token) (λ after. run after ts)
 
 abbrev pub complete_at : Position → Level → List Level → Option Tree
 complete_at (Position.primary t) level [] = Some (whole_sum level t)

@@ -1,11 +1,14 @@
 pub mod Token
 pub mod Tree
-pub mod Grammar
-pub mod Value
-pub mod Sum
-pub mod PolyText
-pub mod Symbols
-pub mod Reading
 pub mod Spelling
 pub mod Faults
-pub mod Laws
+pub mod Value
+pub mod PolyText
+pub mod Answer
+-- the reader's own, for what stands below `parse_poly`
+pub mod Scanning
+pub mod Grammar
+pub mod Symbols
+pub mod Reading
+pub mod Told
+pub mod Sum

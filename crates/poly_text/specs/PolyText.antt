@@ -4,10 +4,12 @@
 --     is_number_name word       whether numbers may have this name
 --     names_of n number word    what a name stands for, where the variables are z1 to zn
 --     is_known n number word    it stands for something
---     text_answer n number bytes     the polynomial of a text, as its canonical list of terms, or its fault
---     number_answer bytes       the number of a text without variables and names, or its fault
---     Answers result given      the result is the one given, unless memory ran out
-use Rattle.std.specs.Prelude.{◌≡◌, ℕ, ◌==◌, nat_le, Bool, false, ◌&&◌, not, if◌then◌else◌, Option, Some, None, is_some, option_map, Result, Ok, Err, List, [], ◌∷◌, length}
+--     IsTextAnswer n number bytes answer      a text with these bytes stands for this polynomial, as its canonical
+--                                             list of terms, or has this fault
+--     IsNumberAnswer bytes answer             the same of the number of a text without variables and names
+--     OrNoMemory IsAnswer result              the result is an answer, unless memory ran out
+--     UpToFault IsAnswer result               the same of a result that does not say which fault there is
+use Rattle.std.specs.Prelude.{ℕ, ◌==◌, nat_le, Bool, false, ◌&&◌, not, if◌then◌else◌, Option, Some, None, is_some, option_map, Result, Ok, Err, List, [], ◌∷◌, length}
 use Rattle.std.specs.List.{list_all}
 use Rattle.std.specs.Ordering.{nat_cmp}
 use Rattle.std.specs.Cmp.Lexicographic.{slice_cmp}
@@ -15,10 +17,12 @@ use Rattle.std.specs.Char.{is_ascii_digit}
 use Rattle.std.specs.FinMap as map
 use Rattle.ibp_algebra.specs.Polynomial.{Polynomial}
 use Rattle.poly_text.specs.declared.fault.TextFault.{TextFault}
+use Rattle.poly_text.specs.declared.fault.Unread.{Unread}
 use Rattle.poly_text.specs.declared.limits.TheConstants.{NAME_LIMIT}
-use Rattle.poly_text.specs.Token.{is_initial, is_word, whole_value, tokens}
-use Rattle.poly_text.specs.Tree.{Tree}
-use Rattle.poly_text.specs.Grammar.{tree_of}
+use Rattle.poly_text.specs.Token.{Token, is_initial, is_word, whole_value}
+use Rattle.poly_text.specs.Tree.{Tree, IsText}
+use Rattle.poly_text.specs.Spelling.{AreTokens}
+use Rattle.poly_text.specs.Faults.{HasNoTokenFault, IsFirstFault}
 use Rattle.poly_text.specs.Value.{constant, constant_term, variable, value}
 
 abbrev pub NumbersValue : Type 0
@@ -56,26 +60,28 @@ names_of n number word =
 abbrev pub is_known : ℕ → (List ℕ → Option ℕ) → List ℕ → Bool
 is_known n number word = is_some (names_of n number word)
 
-abbrev pub tree_value : (List ℕ → Option Polynomial) → Result Tree TextFault → Result Polynomial TextFault
-tree_value names (Ok t) = value names t
-tree_value names (Err fault) = Err fault
+-- the first fault of form, or else the value of the tree or its first fault
+pub data IsTextAnswer (n : ℕ) (number : List ℕ → Option ℕ) (bytes : List ℕ) : Result Polynomial TextFault → Type 0 where
+  of_form : {ts : List (Token × ℕ)} {fault : TextFault} → AreTokens 0 bytes ts → IsFirstFault (is_known n number) (length bytes) ts fault
+      → IsTextAnswer n number bytes (Err fault)
+  of_tree : {ts : List (Token × ℕ)} {t : Tree} → AreTokens 0 bytes ts → IsText ts t → HasNoTokenFault (is_known n number) ts
+      → IsTextAnswer n number bytes (value (names_of n number) t)
 
-unfoldable pub text_answer : ℕ → (List ℕ → Option ℕ) → List ℕ → Result Polynomial TextFault
-text_answer n number bytes =
-    tree_value (names_of n number) (tree_of (is_known n number) (length bytes) (tokens bytes))
-
--- a text without variables and names stands for a number
+-- the number that a constant polynomial is, or the same fault
 abbrev pub number_value : Result Polynomial TextFault → Result ℕ TextFault
 number_value (Ok f) = Ok (constant_term f)
 number_value (Err fault) = Err fault
 
-abbrev pub number_answer : List ℕ → Result ℕ TextFault
-number_answer bytes = number_value (text_answer 0 (λ name. None) bytes)
+-- a text without variables and names stands for a number
+pub data IsNumberAnswer (bytes : List ℕ) : Result ℕ TextFault → Type 0 where
+  of_text : {answer : Result Polynomial TextFault} → IsTextAnswer 0 (λ name. None) bytes answer → IsNumberAnswer bytes (number_value answer)
 
-abbrev pub Fails : {X : Type 0} → TextFault → Result X TextFault → Type 0
-Fails TextFault.NoMemory given = Unit {0}
-Fails fault given = given ≡ Err fault
+abbrev pub OrNoMemory : {X : Type 0} → (Result X TextFault → Type 0) → Result X TextFault → Type 0
+OrNoMemory IsAnswer (Err TextFault.NoMemory) = Unit {0}
+OrNoMemory IsAnswer result = IsAnswer result
 
-abbrev pub Answers : {X : Type 0} → Result X TextFault → Result X TextFault → Type 0
-Answers (Ok x) given = given ≡ Ok x
-Answers (Err fault) given = Fails fault given
+-- the result is the value of an answer, or there is some fault that is one, unless memory ran out
+abbrev pub UpToFault : {X : Type 0} → (Result X TextFault → Type 0) → Result X Unread → Type 0
+UpToFault IsAnswer (Ok x) = IsAnswer (Ok x)
+UpToFault IsAnswer (Err Unread.Fault) = (fault : TextFault) × IsAnswer (Err fault)
+UpToFault IsAnswer (Err Unread.NoMemory) = Unit {0}

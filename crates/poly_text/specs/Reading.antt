@@ -1,5 +1,5 @@
--- Reading a text with values in place of trees.
-use Rattle.std.specs.Prelude.{◌≡◌, ℕ, ◌==◌, nat_lt, if◌then◌else◌, Option, Some, None, Result, Ok, Err, List, [], ◌∷◌, length, reverse}
+-- The reader's own: reading a text with values in place of trees.
+use Rattle.std.specs.Prelude.{ℕ, ◌-◌, ◌^◌, ◌==◌, nat_lt, if◌then◌else◌, Option, Some, None, Result, Ok, Err, List, [], ◌∷◌, length, map, min, reverse}
 use Rattle.ibp_algebra.specs.Polynomial.{Polynomial}
 use Rattle.poly_text.specs.declared.fault.TextFault.{TextFault}
 use Rattle.poly_text.specs.declared.limits.TheConstants.{POWER_LIMIT, DEPTH_LIMIT}
@@ -12,7 +12,7 @@ use Rattle.poly_text.specs.declared.reader.Expected.{Expected}
 use Rattle.poly_text.specs.declared.reader.Reader.{Reader}
 use Rattle.poly_text.specs.Value.{constant, then_value, both_values, sum_of, difference_of, product_of, quotient_of, negative_of, power_of}
 use Rattle.poly_text.specs.Token.{Token}
-use Rattle.poly_text.specs.PolyText.{Fails}
+use Rattle.poly_text.specs.Scanning.{tokens}
 use Rattle.poly_text.specs.Symbols.{named_value, symbol_for}
 
 abbrev pub Operand : Type 0
@@ -130,10 +130,18 @@ read_tokens n number reading (token ∷ ts) =
 abbrev pub first_reading : Reading
 first_reading = reads Expected.Start empty_sum []
 
+-- a place as a fault has it, where the greatest one stands for those beyond it
+abbrev pub place_in : ℕ → ℕ
+place_in p = min p (2 ^ 32 - 1)
+
+abbrev pub placed : Token × ℕ → Token × ℕ
+placed token = (token.0, place_in token.1)
+
+-- the answer to a text, with such places
+abbrev pub read_text : ℕ → (List ℕ → Option ℕ) → List ℕ → Operand
+read_text n number bytes =
+    then_reading (read_tokens n number first_reading (map placed (tokens bytes))) (λ reading. read_end reading (place_in (length bytes)))
+
 -- what the code's reader stands for
 abbrev pub reading_of : Reader → Reading
 reading_of reader = reads reader.expected reader.level (reverse reader.outer.items)
-
-abbrev pub Gives : {X Y : Type 0} → (X → Y) → Result X TextFault → Result Y TextFault → Type 0
-Gives view (Ok x) given = given ≡ Ok (view x)
-Gives view (Err fault) given = Fails fault given

@@ -1,4 +1,4 @@
--- The terms of a sum.
+-- The reader's own: the terms of a sum.
 --     sum_of_both f g                     the sum of two polynomials
 --     sum_with_multiple at factor f g     the sum of f and a multiple of g, under the limit on terms
 --     terms_of c                          how many terms a coefficient gives

@@ -1,4 +1,4 @@
--- What the code reads in place of a token: a name stands for what it means, and a number that is too
+-- The reader's own: what the code reads in place of a token: a name stands for what it means, and a number that is too
 -- large for its type for none.
 use Rattle.std.specs.Prelude.{ℕ, ◌^◌, ◌==◌, nat_lt, nat_le, ◌&&◌, not, if◌then◌else◌, Option, Some, None, option_map, List, [], ◌∷◌, length}
 use Rattle.ibp_algebra.specs.Polynomial.{Polynomial}

@@ -1,5 +1,8 @@
 //! Why a text stands for no polynomial.
 
+ghost use Rattle.std.specs.Prelude.{◌≡◌};
+ghost use Rattle.poly_text.specs.Told.{unread_by};
+
 use ibp_base::NoMemory;
 use std::alloc::{AllocError, AllocFailed};
 use thiserror::Error;
@@ -37,6 +40,29 @@ pub enum TextFault {
     /// Memory ran out.
     #[error("no memory")]
     NoMemory,
+}
+
+/// Why a text stands for no polynomial, where it is not asked which fault it has.
+#[derive(Clone, Copy, Debug, PartialEq, Eq, Error)]
+pub enum Unread {
+    /// It has one of the faults of `TextFault`.
+    #[error("not of its form")]
+    Fault,
+    /// Memory ran out.
+    #[error("no memory")]
+    NoMemory,
+}
+
+impl TextFault {
+    /// The fault without its kind and place.
+    pub(crate) fn unread(self) -> Unread
+        ensures { result ≡ unread_by self }
+    {
+        match self {
+            TextFault::NoMemory => Unread::NoMemory,
+            _ => Unread::Fault,
+        }
+    }
 }
 
 impl From<NoMemory> for TextFault {

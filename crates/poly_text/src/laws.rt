@@ -1,20 +1,20 @@
 //! Laws of the grammar, over every list of tokens and every text.
-ghost use Rattle.std.specs.Prelude.{◌≡◌, ◌↔◌, ◌<◌, ◌≤◌, ℕ, Bool, false, List, length, Option, IsSome, Result, Ok, Err};
+ghost use Rattle.std.specs.Prelude.{◌≡◌, ◌↔◌, ◌<◌, ◌≤◌, ℕ, Bool, false, List, length, Option, Result};
 ghost use Rattle.ibp_algebra.specs.Polynomial.{Polynomial};
-ghost use Rattle.poly_text.specs.Token.{Token, tokens};
+ghost use Rattle.mono_order.specs.declared.limits.TheConstants.{VARIABLES};
+ghost use Rattle.poly_text.specs.declared.fault.TextFault.{TextFault};
+ghost use Rattle.poly_text.specs.declared.limits.TheConstants.{DEPTH_LIMIT, NAME_LIMIT, POWER_LIMIT};
+ghost use Rattle.poly_text.specs.Token.{Token};
 ghost use Rattle.poly_text.specs.Spelling.{AreTokens};
 ghost use Rattle.poly_text.specs.Tree.{Tree, IsText};
-ghost use Rattle.poly_text.specs.Grammar.{first_state, run, tree_of};
-ghost use Rattle.poly_text.specs.Faults.{IsFront, IsTokenFault, HasNoTokenFault, IsFirstFault};
-ghost use Rattle.poly_text.specs.PolyText.{is_known, text_answer};
-ghost use Rattle.poly_text.specs.Laws.{accepts, IsTextAnswer};
-ghost use Rattle.mono_order.specs.declared.limits.TheConstants.{VARIABLES};
-ghost use Rattle.poly_text.specs.declared.limits.TheConstants.{NAME_LIMIT};
-ghost use Rattle.poly_text.specs.declared.fault.TextFault.{TextFault};
+ghost use Rattle.poly_text.specs.Faults.{IsTokenFault};
+ghost use Rattle.poly_text.specs.PolyText.{is_known, IsTextAnswer, IsNumberAnswer};
+ghost use Rattle.poly_text.specs.Answer.{text_answer, number_answer};
 
-/// The tokens of a text are those that its bytes spell.
+/// Each text has its tokens, and no others.
 pub fn tokens_of_a_text()
-    ensures { (bytes : List ℕ) (ts : List (Token × ℕ)) → (tokens bytes ≡ ts) ↔ AreTokens 0 bytes ts }
+    ensures some { (bytes : List ℕ) → (ts : List (Token × ℕ)) × AreTokens 0 bytes ts }
+    ensures one { (bytes : List ℕ) (ts us : List (Token × ℕ)) → AreTokens 0 bytes ts → AreTokens 0 bytes us → ts ≡ us }
 {}
 
 /// A byte that begins no token may stand nowhere.
@@ -27,32 +27,24 @@ pub fn long_names_are_unknown()
     ensures { (n : ℕ) (number : List ℕ → Option ℕ) (word : List ℕ) → n ≤ VARIABLES → NAME_LIMIT < length word → is_known n number word ≡ false }
 {}
 
-/// Reading without limits accepts the texts of the grammar and no others, each with its tree.
-pub fn accepts_the_grammar()
-    ensures { (ts : List (Token × ℕ)) (t : Tree) → (accepts ts ≡ Some t) ↔ IsText ts t }
-{}
-
 /// A text of the grammar has one tree.
 pub fn one_tree()
     ensures { (ts : List (Token × ℕ)) (t u : Tree) → IsText ts t → IsText ts u → t ≡ u }
 {}
 
-/// Reading is stuck exactly behind tokens with which no text of the grammar begins.
-pub fn stuck_where_no_text_goes_on()
-    ensures { (ts : List (Token × ℕ)) → IsSome (run first_state ts) ↔ IsFront ts }
-{}
-
-/// Reading answers the tree of a text of the grammar none of whose tokens has a fault, and no other tree.
-pub fn tree_of_a_text()
-    ensures { (known : List ℕ → Bool) (end : ℕ) (ts : List (Token × ℕ)) (t : Tree) → (tree_of known end ts ≡ Ok t) ↔ (IsText ts t × HasNoTokenFault known ts) }
-{}
-
-/// Reading answers the first fault of form, with its place, and no other fault.
-pub fn first_fault_of_form()
-    ensures { (known : List ℕ → Bool) (end : ℕ) (ts : List (Token × ℕ)) (fault : TextFault) → (tree_of known end ts ≡ Err fault) ↔ IsFirstFault known end ts fault }
-{}
-
-/// The answer to a text is its first fault of form, or where it has none the value of its tree or the first fault of that.
+/// Each text has one answer: its first fault of form, or where it has none the value of its tree or the
+/// first fault of that.
 pub fn answer_to_a_text()
-    ensures { (n : ℕ) (number : List ℕ → Option ℕ) (bytes : List ℕ) (answer : Result Polynomial TextFault) → (text_answer n number bytes ≡ answer) ↔ IsTextAnswer n number bytes answer }
+    ensures text { (n : ℕ) (number : List ℕ → Option ℕ) (bytes : List ℕ) (answer : Result Polynomial TextFault)
+        → (text_answer n number bytes ≡ answer) ↔ IsTextAnswer n number bytes answer }
+    ensures number { (bytes : List ℕ) (answer : Result ℕ TextFault)
+        → (number_answer bytes ≡ answer) ↔ IsNumberAnswer bytes answer }
+{}
+
+/// The limits of the format on one text: a name has at most 32 bytes, an exponent is at most 20, and at most
+/// 64 parentheses are open at once.
+pub fn limits_of_texts()
+    ensures name { NAME_LIMIT ≡ 32 }
+    ensures power { POWER_LIMIT ≡ 20 }
+    ensures depth { DEPTH_LIMIT ≡ 64 }
 {}

@@ -15,11 +15,8 @@ mod sum;
 mod symbol;
 mod value;
 
-pub use fault::TextFault;
+pub use fault::{TextFault, Unread};
 pub use limits::{DEPTH_LIMIT, NAME_LIMIT, POWER_LIMIT};
 pub use numbers::Numbers;
-pub use parse::{parse_number, parse_poly};
+pub use parse::{parse_poly, read_number, read_poly};
 pub use scan::is_number_name;
-
-#[cfg(test)]
-mod tests;

@@ -4,7 +4,8 @@ ghost use Rattle.std.specs.Prelude.{◌≡◌, ◌+◌, ◌*◌, ◌-◌, ◌≤
 ghost use Rattle.std.specs.Char.{is_ascii_digit};
 ghost use Rattle.std.specs.List.{prefix_len, list_all};
 ghost use Rattle.mono_order.specs.declared.limits.TheConstants.{VARIABLES};
-ghost use Rattle.poly_text.specs.Token.{is_blank, is_initial, is_word, whole_value, further_bytes, token_of};
+ghost use Rattle.poly_text.specs.Token.{is_blank, is_initial, is_word, whole_value};
+ghost use Rattle.poly_text.specs.Scanning.{further_bytes, token_of};
 ghost use Rattle.poly_text.specs.PolyText.{value_in, is_variable_name, is_name, is_number_name};
 ghost use Rattle.poly_text.specs.Symbols.{limited, named_variable, named, symbol_for};
 

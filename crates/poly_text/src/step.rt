@@ -1,8 +1,9 @@
 //! What one more symbol makes of a reader.
 
 ghost use Rattle.std.specs.Prelude.{◌≡◌, IfOk, reverse};
-ghost use Rattle.poly_text.specs.Reading.{Gives, reading_of, empty_sum, combined, product_value, sum_value, level_value, primary_value, read_open, read_operand, read_start, read_closed, read_factor, read_primary, raised, read_exponent, read_next, read_end, first_reading};
-ghost use Rattle.poly_text.specs.PolyText.{Answers};
+ghost use Rattle.poly_text.specs.Told.{Gives};
+ghost use Rattle.poly_text.specs.Reading.{reading_of, empty_sum, combined, product_value, sum_value, level_value, primary_value, read_open, read_operand, read_start, read_closed, read_factor, read_primary, raised, read_exponent, read_next, read_end, first_reading};
+ghost use Rattle.poly_text.specs.Told.{Answers};
 ghost use Rattle.poly_text.specs.Symbols.{named_value};
 
 use crate::fault::TextFault;

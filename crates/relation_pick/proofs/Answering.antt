@@ -6,6 +6,7 @@ use Rattle.std.specs.declared.cmp.Ordering.{Ordering}
 use Rattle.std.specs.Cmp.{IsTotalOrder, nat_cmp_total, back_total}
 use Rattle.std.specs.FinMap.{IsAntisymmetric, nat_cmp-IsAntisymmetric}
 use Rattle.ibp_algebra.specs.FormalSum.{FormalSum, AllKeys, IsCanonical}
+use Rattle.ibp_algebra.proofs.Numbers.{nat_decides}
 use Rattle.ibp_algebra.proofs.Weights.{weighted_sum-ext, unit_weight}
 use Rattle.ibp_algebra.proofs.SumLaws.{SameCoefficients-refl, SameCoefficients-trans, SameCoefficients-append}
 use Rattle.ibp_algebra.specs.Combination.{combination}
@@ -16,9 +17,9 @@ use Rattle.ibp_algebra.proofs.Combinations.{AllKeys-weaker}
 use Rattle.ibp_algebra.proofs.ReducedForms.{IsReducedForm-unique}
 use Rattle.ibp_algebra.proofs.Independence.{weights_unique}
 use Rattle.row_echelon.specs.Echelons.{number_cmp}
-use Rattle.relation_pick.specs.Picking.{WholeSpan, IsInBasis, IsExpression, IsNeededFor, IsWritten, IsAnswer, AllAnswers}
+use Rattle.row_echelon.specs.RowSpans.{WholeSpan}
+use Rattle.relation_pick.specs.Picking.{IsInBasis, IsExpression, IsNeededFor, IsWritten, IsAnswer, AllAnswers}
 use Rattle.relation_pick.specs.Marks.{IsNamed, AnyNamed}
-use Rattle.relation_pick.proofs.Basis.{nat_decides}
 use Rattle.relation_pick.proofs.PickLaws.{IsIndependent-basis}
 
 -- ---- the names of canonical weights

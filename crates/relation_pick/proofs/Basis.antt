@@ -10,6 +10,7 @@ use Rattle.std.proofs.lemmas.Cmp.{ranked, by_ranked}
 use Rattle.std.proofs.lemmas.Bool.{cases_lt}
 use Rattle.ibp_algebra.specs.FormalSum.{FormalSum, AllKeys, IsCanonical, normal_form}
 use Rattle.ibp_field.proofs.Inverse.{inverse_exists}
+use Rattle.ibp_algebra.proofs.Numbers.{greater_is, nat_decides}
 use Rattle.ibp_algebra.proofs.SumLaws.{SameCoefficients-sym, SameCoefficients-trans}
 use Rattle.ibp_algebra.proofs.NormalForm.{IsCanonical-normal_form, AllKeys-normal_form, SameCoefficients-normal_form}
 use Rattle.ibp_algebra.specs.Combination.{combination}
@@ -18,12 +19,6 @@ use Rattle.ibp_algebra.proofs.CombinationLaws.{combination-weights}
 use Rattle.ibp_algebra.proofs.Members.{order_decides, InSpan-row, InSpan-scale, InSpan-same, InSpan-trans}
 use Rattle.ibp_algebra.proofs.Combinations.{AllKeys-weaker}
 use Rattle.ibp_algebra.proofs.Independence.{solved_row}
-
-pub greater_is : (m n : ℕ) → nat_cmp m n ≡ Greater → n < m
-greater_is m n h = by_ranked (m < n) (m ≡ n) (n < m) (nat_cmp m n) (ranked m n (nat_cmp m n) refl) (λ e _. absurd (cc)) (λ e _. absurd (cc)) (λ _ above. above)
-
-pub nat_decides : (a b : ℕ) → Decides (eq_by_cmp nat_cmp a b) (a ≡ b)
-nat_decides = order_decides nat_cmp nat_cmp_total nat_cmp-IsAntisymmetric
 
 module _ {K : Type 0} (order : K → K → Ordering) (total : IsTotalOrder order) (unique : IsAntisymmetric order) (row : ℕ → FormalSum K) where
   abbrev same : K → K → Bool

@@ -13,7 +13,9 @@ use Rattle.ibp_algebra.specs.Spans.{row_at, SameSum, IsReducedForm}
 use Rattle.ibp_algebra.proofs.Members.{order_decides, InSpan-along}
 use Rattle.ibp_algebra.proofs.ReducedForms.{IsReducedForm-unique, IsReducedForm-along}
 use Rattle.ibp_algebra.proofs.Independence.{IsIndependent-along}
-use Rattle.relation_pick.specs.Picking.{SpanOf, WholeSpan, SpanWithout, IsExpression, IsWritten, IsAnswer, AllAnswers, IsPick, IsIrredundant}
+use Rattle.row_echelon.specs.RowSpans.{SpanOf, WholeSpan}
+use Rattle.relation_pick.specs.Picking.{IsExpression, IsWritten, IsAnswer, AllAnswers, IsPick}
+use Rattle.relation_pick.proofs.ByPlaces.{SpanBut, IsIrredundantAt}
 use Rattle.relation_pick.specs.Marks.{AnyNamed, ListsNamed}
 use Rattle.relation_pick.proofs.PickLaws.{written_in_basis, IsIndependent-written, IsReducedForm-written, DependsOn-written}
 use Rattle.relation_pick.proofs.Answering.{AllAnswers-push, written_from_name, named_from_written}
@@ -79,9 +81,9 @@ module _ {K : Type 0} (order : K → K → Ordering) (candidates : List (FormalS
           },
         )
 
-    pub IsIrredundant-pick : (written : List ℕ) (forms : List (FormalSum K)) (all : List (FormalSum ℕ)) → IsPick order candidates targets written forms all
-        → IsIrredundant order candidates targets (Contains written)
-    IsIrredundant-pick written forms all pick =
+    pub IsIrredundantAt-pick : (written : List ℕ) (forms : List (FormalSum K)) (all : List (FormalSum ℕ)) → IsPick order candidates targets written forms all
+        → IsIrredundantAt order candidates targets (Contains written)
+    IsIrredundantAt-pick written forms all pick =
         let Needed = IsWritten order candidates targets in
         let there : (k : ℕ) → Contains written k → Needed k = λ k c. (pick.lists k).0 c in
         let back : (k : ℕ) → Needed k → Contains written k = λ k w. (pick.lists k).1 w in
@@ -107,7 +109,7 @@ module _ {K : Type 0} (order : K → K → Ordering) (candidates : List (FormalS
                   before = reduced_along d.1 depends.form depends.before;
                   after = λ h.
                       depends.after
-                      (IsReducedForm-along order (SpanWithout order candidates (Contains written) j) (SpanWithout order candidates Needed j)
+                      (IsReducedForm-along order (SpanBut order candidates (Contains written) j) (SpanBut order candidates Needed j)
                       (span_along (λ k. Contains written k × (k ≢ j)) (λ k. Needed k × (k ≢ j)) (λ k c. (there k c.0, c.1)))
                       (span_along (λ k. Needed k × (k ≢ j)) (λ k. Contains written k × (k ≢ j)) (λ k c. (back k c.0, c.1))) d.1 depends.form h);
                 },

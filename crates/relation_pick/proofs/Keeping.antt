@@ -6,7 +6,7 @@ use Rattle.std.proofs.lemmas.List.Elements.{All-push}
 use Rattle.sector_lattice.specs.Sectors.{integral_cmp}
 use Rattle.sector_lattice.specs.Orders.{integral_cmp_total, same_integrals, integrals_decide}
 use Rattle.ibp_algebra.specs.FormalSum.{FormalSum, AllKeys, IsCanonical}
-use Rattle.ibp_algebra.proofs.SumLaws.{SameCoefficients-refl, SameCoefficients-sym, SameCoefficients-trans, SameCoefficients-append}
+use Rattle.ibp_algebra.proofs.SumLaws.{SameCoefficients-refl, SameCoefficients-trans, SameCoefficients-append}
 use Rattle.ibp_algebra.specs.Combination.{combination}
 use Rattle.ibp_algebra.specs.Spans.{row_at, coefficient_by, IsReducedForm}
 use Rattle.sparse_rows.specs.Rows.{IntegralSum, SameRow}
@@ -17,8 +17,9 @@ use Rattle.ibp_algebra.proofs.ReducedForms.{IsReducedForm-along}
 use Rattle.row_echelon.specs.declared.inserted.Inserted.{Inserted}
 use Rattle.row_echelon.specs.declared.inserted.Inserted.TheVariants.{Kept, Dependent}
 use Rattle.row_echelon.specs.Echelons.{KeptRows, row_numbered, IsNumber, InKeptSpan, IsBelow, Inserts, number_cmp}
-use Rattle.row_echelon.proofs.Keeping.{number_cases, old_number, new_number, row_numbered-push_new, row_numbered-push_old, same_combination}
-use Rattle.relation_pick.specs.Picking.{WholeSpan, IsInBasis, IsAnswer}
+use Rattle.row_echelon.proofs.Keeping.{number_cases, new_number, row_numbered-push_new, row_numbered-push_old, InKeptSpan-push}
+use Rattle.row_echelon.specs.RowSpans.{WholeSpan}
+use Rattle.relation_pick.specs.Picking.{IsInBasis, IsAnswer}
 use Rattle.relation_pick.specs.Kept.{KeepsBasis}
 
 pub KeepsBasis-start : (candidates : List IntegralSum) → KeepsBasis candidates 0 []
@@ -31,13 +32,6 @@ KeepsBasis-start candidates = record {
 
 below_more : (kept : KeptRows) (n : ℕ) → IsBelow kept n → IsBelow kept (n + 1)
 below_more kept n h = λ i d within. (let below = h i d within in omega arith)
-
-span_more : (kept : KeptRows) (added : ℕ × IntegralSum) (f : IntegralSum) → InKeptSpan kept f → InKeptSpan (kept ++ added ∷ []) f
-span_more kept added f h = record {
-  weights = h.weights;
-  among = AllKeys-weaker (IsNumber kept) (IsNumber (kept ++ added ∷ [])) (old_number kept added) h.weights h.among;
-  equal = SameCoefficients-trans h.equal (SameCoefficients-sym (same_combination kept added h.weights h.among));
-}
 
 -- a row that is in the span changes nothing
 dependent_step : (candidates : List IntegralSum) (n : ℕ) (kept : KeptRows) → KeepsBasis candidates n kept → InKeptSpan kept (row_at candidates n) → KeepsBasis candidates (n + 1) kept
@@ -73,7 +67,7 @@ kept_step candidates n kept within h new =
           ⊎_elim (λ (old : IsNumber kept k). h.basis k old) (λ (here : n ≡ k). subst (IsInBasis integral_cmp candidates) here here_basis) (number_cases kept added k is);
       spans = λ k early.
           ⊎_elim
-          (λ (before : k < n). span_more kept added (row_at candidates k) (h.spans k before))
+          (λ (before : k < n). InKeptSpan-push kept added (row_at candidates k) (h.spans k before))
           (λ (late : n ≤ k).
           let here : n ≡ k = omega arith in
           let own : InKeptSpan (kept ++ added ∷ []) (row_numbered (kept ++ added ∷ []) n) =

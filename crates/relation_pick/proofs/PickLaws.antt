@@ -8,6 +8,7 @@ use Rattle.std.specs.Cmp.{IsTotalOrder, nat_cmp_total}
 use Rattle.std.specs.FinMap.{IsAntisymmetric, nat_cmp-IsAntisymmetric}
 use Rattle.std.specs.Bool.{Decides}
 use Rattle.ibp_algebra.specs.FormalSum.{FormalSum, AllKeys, normal_form}
+use Rattle.ibp_algebra.proofs.Numbers.{nat_decides}
 use Rattle.ibp_algebra.proofs.SumLaws.{SameCoefficients-sym, SameCoefficients-trans}
 use Rattle.ibp_algebra.proofs.Terms.{AllKeys-canonical}
 use Rattle.ibp_algebra.proofs.NormalForm.{IsCanonical-normal_form, SameCoefficients-normal_form}
@@ -18,8 +19,10 @@ use Rattle.ibp_algebra.proofs.Members.{order_decides, AllKeys-counting, InSpan-a
 use Rattle.ibp_algebra.proofs.Combinations.{AllKeys-weaker}
 use Rattle.ibp_algebra.proofs.ReducedForms.{difference-from_sum, sum-from_difference}
 use Rattle.ibp_algebra.proofs.Independence.{weights_unique, IsIndependent-along}
-use Rattle.relation_pick.specs.Picking.{SpanOf, WholeSpan, SpanWithout, IsInBasis, IsExpression, IsNeededFor, IsWritten, DependsOn}
-use Rattle.relation_pick.proofs.Basis.{nat_decides, IsIndependent-new}
+use Rattle.row_echelon.specs.RowSpans.{SpanOf, WholeSpan}
+use Rattle.relation_pick.specs.Picking.{IsInBasis, IsExpression, IsNeededFor, IsWritten}
+use Rattle.relation_pick.proofs.ByPlaces.{SpanBut, DependsOnPlace}
+use Rattle.relation_pick.proofs.Basis.{IsIndependent-new}
 
 -- a name with a weight that is not zero has what all names have
 counting_name : (P : ℕ → Type 0) (c : FormalSum ℕ) → AllKeys P c → (k : ℕ) → coefficient_by nat_cmp c k ≢ 0 → P k
@@ -87,7 +90,7 @@ module _ {K : Type 0} (order : K → K → Ordering) (total : IsTotalOrder order
 
   -- without a candidate that counts in its expression a target loses its reduced form
   form_lost : (targets : List (FormalSum K)) (target : FormalSum K) (j : ℕ) (needed : IsNeededFor order candidates target j)
-      → ¬ (IsReducedForm order (SpanWithout order candidates (IsWritten order candidates targets) j) target needed.form)
+      → ¬ (IsReducedForm order (SpanBut order candidates (IsWritten order candidates targets) j) target needed.form)
   form_lost targets target j needed h =
       let others = h.within.weights in
       let in_basis : AllKeys (IsInBasis order candidates) others =
@@ -103,7 +106,7 @@ module _ {K : Type 0} (order : K → K → Ordering) (total : IsTotalOrder order
 
   -- none of the written candidates can be left out
   pub DependsOn-written : (targets : List (FormalSum K)) (j : ℕ) → IsWritten order candidates targets j
-      → Any (λ target. DependsOn order candidates (IsWritten order candidates targets) target j) targets
+      → Any (λ target. DependsOnPlace order candidates (IsWritten order candidates targets) target j) targets
   DependsOn-written targets j w =
       let needed = w.4 in (
         w.0,

@@ -21,7 +21,8 @@ use Rattle.ibp_algebra.proofs.NormalForm.{IsCanonical-normal_form, AllKeys-norma
 use Rattle.ibp_algebra.proofs.ReducedForms.{difference-from_sum, sum-from_difference, IsReducedForm-unique}
 use Rattle.ibp_algebra.proofs.SumLaws.{SameCoefficients-refl, SameCoefficients-sym, SameCoefficients-trans, SameCoefficients-append}
 use Rattle.row_echelon.specs.Echelons.{number_cmp}
-use Rattle.relation_pick.specs.Picking.{SpanOf, WholeSpan, IsInBasis, IsExpression, IsAnswer, AllAnswers, IsPick}
+use Rattle.row_echelon.specs.RowSpans.{SpanOf, WholeSpan}
+use Rattle.relation_pick.specs.Picking.{IsInBasis, IsExpression, IsAnswer, AllAnswers, IsPick}
 use Rattle.relation_pick.specs.Marks.{IsNamed, AnyNamed, ListsNamed}
 use Rattle.relation_pick.proofs.Answering.{number_total, number_unique}
 use Rattle.relation_pick.proofs.Basis.{basis_spans}

@@ -1,27 +1,22 @@
 -- Which of a list of candidates are needed to reduce the targets. Candidates are named by their places.
---     WholeSpan order candidates            the span of all candidates
 --     IsInBasis order candidates k          candidate k is not in the span of the earlier ones
 --     IsExpression ..                       the target is its form plus a combination of basis candidates
 --     IsNeededFor order candidates t k      k has a weight that is not zero in the expression of t over the basis
 --     IsWritten order candidates targets k  k is needed for some target
 --     IsPick ..                             which candidates are written, and the answer for each target
---     DependsOn .. Places target j          without candidate j the reduced form of the target by those at Places changes
+--     rows_at candidates places             the rows of the candidates at these places
+--     DependsOn order rows target j         without row j the reduced form of the target by these rows changes
+--     IsIrredundant ..                      these rows are independent, reduce each target as all do, and each is needed
 -- Source: linear algebra; NeatIBP of Wu, Böhm, Ma, Xu and Zhang picks its relations so over a finite field.
-use Rattle.std.specs.Prelude.{◌≢◌, ◌↔◌, ℕ, ◌<◌, List, [], ◌∷◌, ◌++◌, length, Any, Contains}
+use Rattle.std.specs.Prelude.{◌≢◌, ◌↔◌, ℕ, ◌<◌, List, [], ◌∷◌, ◌++◌, length, map, Any, Contains}
 use Rattle.std.specs.List.Sorted.{IsStrictlyIncreasing}
 use Rattle.std.specs.Ordering.{nat_cmp}
 use Rattle.std.specs.declared.cmp.Ordering.{Ordering}
 use Rattle.ibp_algebra.specs.FormalSum.{FormalSum, AllKeys, IsCanonical}
 use Rattle.row_echelon.specs.Echelons.{number_cmp}
-use Rattle.ibp_algebra.specs.Spans.{row_at, SameSum, coefficient_by, InSpan, IsIndependent, IsReducedForm}
+use Rattle.row_echelon.specs.RowSpans.{SpanOf, WholeSpan, SpanWithout}
+use Rattle.ibp_algebra.specs.Spans.{row_at, SameSum, coefficient_by, IsIndependent, IsReducedForm}
 use Rattle.ibp_algebra.specs.Combination.{combination}
-
--- the span of the candidates at these places
-abbrev pub SpanOf : {K : Type 0} → (K → K → Ordering) → List (FormalSum K) → (ℕ → Type 0) → FormalSum K → Type 0
-SpanOf order candidates Places f = InSpan order (row_at candidates) Places f
-
-abbrev pub WholeSpan : {K : Type 0} → (K → K → Ordering) → List (FormalSum K) → FormalSum K → Type 0
-WholeSpan order candidates = SpanOf order candidates (λ k. k < length candidates)
 
 pub record IsInBasis {K : Type 0} (order : K → K → Ordering) (candidates : List (FormalSum K)) (k : ℕ) : Type 0 where
   pub listed : k < length candidates
@@ -62,18 +57,18 @@ pub record IsPick {K : Type 0} (order : K → K → Ordering) (candidates target
   pub lists : (k : ℕ) → Contains written k ↔ IsWritten order candidates targets k
   pub answers : AllAnswers order candidates targets forms weights
 
--- the span of the candidates at these places but for one
-abbrev pub SpanWithout : {K : Type 0} → (K → K → Ordering) → List (FormalSum K) → (ℕ → Type 0) → ℕ → FormalSum K → Type 0
-SpanWithout order candidates Places j = SpanOf order candidates (λ k. Places k × (k ≢ j))
+-- the rows of the candidates at these places
+abbrev pub rows_at : {K : Type 0} → List (FormalSum K) → List ℕ → List (FormalSum K)
+rows_at candidates places = map (row_at candidates) places
 
-pub record DependsOn {K : Type 0} (order : K → K → Ordering) (candidates : List (FormalSum K)) (Places : ℕ → Type 0) (target : FormalSum K) (j : ℕ) : Type 0 where
+pub record DependsOn {K : Type 0} (order : K → K → Ordering) (rows : List (FormalSum K)) (target : FormalSum K) (j : ℕ) : Type 0 where
   pub form : FormalSum K
-  pub before : IsReducedForm order (SpanOf order candidates Places) target form
-  pub after : ¬ (IsReducedForm order (SpanWithout order candidates Places j) target form)
+  pub before : IsReducedForm order (WholeSpan order rows) target form
+  pub after : ¬ (IsReducedForm order (SpanWithout order rows j) target form)
 
--- the laws of a pick: the written candidates are independent, they reduce each target as all candidates do,
+-- the laws of the rows that are written: they are independent, they reduce each target as all candidates do,
 -- and none of them can be left out
-pub record IsIrredundant {K : Type 0} (order : K → K → Ordering) (candidates targets : List (FormalSum K)) (Places : ℕ → Type 0) : Type 0 where
-  pub independent : IsIndependent nat_cmp order (row_at candidates) Places
-  pub enough : (target form : FormalSum K) → Contains targets target → IsReducedForm order (WholeSpan order candidates) target form → IsReducedForm order (SpanOf order candidates Places) target form
-  pub needed : (j : ℕ) → Places j → Any (λ target. DependsOn order candidates Places target j) targets
+pub record IsIrredundant {K : Type 0} (order : K → K → Ordering) (candidates targets rows : List (FormalSum K)) : Type 0 where
+  pub independent : IsIndependent nat_cmp order (row_at rows) (λ place. place < length rows)
+  pub enough : (target form : FormalSum K) → Contains targets target → IsReducedForm order (WholeSpan order candidates) target form → IsReducedForm order (WholeSpan order rows) target form
+  pub needed : (j : ℕ) → j < length rows → Any (λ target. DependsOn order rows target j) targets

@@ -11,7 +11,8 @@ use Rattle.std.proofs.lemmas.List.{take_more, take-append-drop}
 use Rattle.std.proofs.lemmas.List.Elements.{Contains-append_cases, Contains-append_left, Contains-append_right}
 use Rattle.std.proofs.lemmas.Map.Keys.{sorted_tail}
 use Rattle.relay_core.specs.Family.{Adds}
-use Rattle.relay_core.proofs.Members.{in_cases, in_head, in_tail, in_none, after_first}
+use Rattle.ibp_base.proofs.Members.{in_cases, in_head, in_tail, in_none}
+use Rattle.ibp_base.proofs.Ascending.{after_first}
 
 pub from_each : {X : Type 0} (P : X → Type 0) (xs : List X) → ((x : X) → Contains xs x → P x) → AllByRecursion P xs
 from_each P [] h = tt
@@ -55,12 +56,12 @@ module _ {K : Type 0} (cmp : K → K → Ordering) (total : IsTotalOrder cmp) wh
       let first : cmp t x ≡ Less = above t (omega arith) in
       sorted_cons t (x ∷ xs) (λ y inside. elim (in_cases x xs y inside) [
         | inl same ↦ subst (λ z. cmp t z ≡ Less) same first
-        | inr rest ↦ total.trans t x y first (after_first cmp total x xs y up rest)
+        | inr rest ↦ total.trans t x y first (after_first cmp x xs y up rest)
       ]) up
   insert_sorted (x ∷ xs) (suc i) t up within below above =
       let first : cmp x t ≡ Less = below 0 t (omega arith) (omega arith) in
       sorted_cons x (insert xs i t) (λ y inside. elim (from_insert xs i t y inside) [
-        | inl rest ↦ after_first cmp total x xs y up rest
+        | inl rest ↦ after_first cmp x xs y up rest
         | inr same ↦ subst (λ z. cmp x z ≡ Less) same first
       ]) (insert_sorted xs i t (sorted_tail cmp x xs up) (omega arith) (λ k d low high. below (suc k) d (omega arith) (omega arith)) (λ d inside. above d (omega arith)))
 

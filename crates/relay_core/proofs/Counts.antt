@@ -17,7 +17,8 @@ use Rattle.sector_lattice.specs.Sectors.{sector_cmp}
 use Rattle.sector_lattice.specs.Orders.{sector_cmp_total, same_sectors}
 use Rattle.relay_core.specs.Family.{Adds}
 use Rattle.relay_core.proofs.Adding.{from_each, one_of}
-use Rattle.relay_core.proofs.Members.{in_cases, in_head, in_tail, not_below_itself}
+use Rattle.ibp_base.proofs.Members.{in_cases, in_head, in_tail}
+use Rattle.ibp_base.proofs.Ascending.{not_below_itself}
 
 differ : (x : ℕ) (xs : List ℕ) → AllByRecursion (λ y. sector_cmp x y ≡ Less) xs → AllByRecursion (λ y. eqb x y ≡ false) xs
 differ x [] h = tt

@@ -8,7 +8,8 @@ use Rattle.relay_core.specs.declared.event.Holding.{Holding}
 use Rattle.relay_core.specs.Family.{TailRelation, book, IsReached, IsTail, ComesFrom, MeetsEquation, AreLawful}
 use Rattle.relay_core.specs.Relay.{Progress, IsHeldBy, holder_of, CanBeTaken, AllDone}
 use Rattle.relay_core.specs.Facts.{LieBetween, IsHeldOrDone, IsFinal, GoesOn}
-use Rattle.relay_core.proofs.Members.{each_or, number_in, same_members}
+use Rattle.ibp_base.proofs.Members.{each_or, number_in}
+use Rattle.ibp_base.proofs.Ascending.{same_members}
 use Rattle.relay_core.proofs.Counts.{number_below}
 use Rattle.relay_core.proofs.SectorBooks.{reached_by, a_member, same_book}
 use Rattle.relay_core.proofs.Sound.{IsRipe, Cause, IsWorked, IsAtWork, IsSound, run, book_stays}

@@ -14,8 +14,7 @@ use Rattle.relay_core.specs.Facts.{LieBetween, IsHeldOrDone, IsFinal}
 use Rattle.relay_core.specs.State.{Relay, IsKept, Moves}
 use Rattle.relay_core.proofs.Sound.{IsSound, Stepped, replay_sound, step, book_stays}
 use Rattle.relay_core.proofs.Facts.{lie_between, final, closed_meets, all_done_or, ripe_if, reached_if, done_few, held_open}
-use Rattle.relay_core.proofs.Members.{in_none}
-use Rattle.relay_core.proofs.Found.{in_map}
+use Rattle.ibp_base.proofs.Members.{in_none, in_map}
 use Rattle.relay_core.proofs.Held.{some_holder}
 use Rattle.relay_core.proofs.SectorBooks.{from_book}
 use Rattle.relay_core.specs.Jobs.{AreOf, AreAlike}

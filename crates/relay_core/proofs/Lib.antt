@@ -4,11 +4,9 @@ pub mod Calls
 pub mod Counts
 pub mod Facts
 pub mod Finishes
-pub mod Found
 pub mod Held
 pub mod Kept
 pub mod LastEvent
-pub mod Members
 pub mod OneReplay
 pub mod SectorBooks
 pub mod SideBySide

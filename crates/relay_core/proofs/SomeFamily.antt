@@ -7,7 +7,7 @@ use Rattle.sector_lattice.specs.Sectors.{sector_of, integral_cmp, Ascends, IsPro
 use Rattle.sector_lattice.specs.Orders.{integral_cmp_total, same_integrals, proper_below, sector_below}
 use Rattle.relay_core.specs.Family.{TailRelation, book, IsReached, IsTail, ComesFrom, MeetsEquation, AreLawful, Adds}
 use Rattle.relay_core.proofs.Adding.{sorted_none}
-use Rattle.relay_core.proofs.Members.{in_none}
+use Rattle.ibp_base.proofs.Members.{in_none}
 use Rattle.relay_core.proofs.SectorBooks.{from_book, a_member, same_book}
 use Rattle.relay_core.proofs.Told.{all_taken_in}
 use Rattle.std.proofs.lemmas.List.Kept.{IsStrictlySortedBy-filter}

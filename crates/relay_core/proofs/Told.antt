@@ -13,7 +13,8 @@ use Rattle.sector_lattice.specs.declared.integral.Integral.{Integral}
 use Rattle.sector_lattice.specs.Sectors.{sector_of, integral_cmp, Ascends}
 use Rattle.sector_lattice.specs.Orders.{integral_cmp_total, same_integrals}
 use Rattle.relay_core.specs.Family.{book, unless_empty, books_of, Adds, IsMap}
-use Rattle.relay_core.proofs.Members.{same_members, in_cases, in_head, in_tail, in_none, after_first}
+use Rattle.ibp_base.proofs.Members.{in_cases, in_head, in_tail, in_none}
+use Rattle.ibp_base.proofs.Ascending.{same_members, after_first}
 use Rattle.relay_core.proofs.Adding.{one_of, sorted_cons, sorted_none, adds_here}
 use Rattle.relay_core.proofs.SectorBooks.{in_book, from_book}
 
@@ -44,7 +45,7 @@ module _ {K : Type 0} (cmp : K → K → Ordering) (total : IsTotalOrder cmp) (e
   in_front x xs t up low = record {
     ascends = sorted_cons cmp total t (x ∷ xs) (λ y inside. elim (in_cases x xs y inside) [
       | inl same ↦ subst (λ z. cmp t z ≡ Less) same low
-      | inr rest ↦ total.trans t x y low (after_first cmp total x xs y up rest)
+      | inr rest ↦ total.trans t x y low (after_first cmp x xs y up rest)
     ]) up;
     members = λ y. (
       λ inside. elim (in_cases t (x ∷ xs) y inside) [ inl same ↦ inr (in_head t [] y same) | inr rest ↦ inl rest ],
@@ -55,7 +56,7 @@ module _ {K : Type 0} (cmp : K → K → Ordering) (total : IsTotalOrder cmp) (e
   behind : (x : K) (xs : List K) (t : K) (new : List K) → IsStrictlySortedBy cmp (x ∷ xs) → cmp x t ≡ Less → Adds cmp xs (t ∷ []) new → Adds cmp (x ∷ xs) (t ∷ []) (x ∷ new)
   behind x xs t new up low adds = record {
     ascends = sorted_cons cmp total x new (λ y inside. elim ((adds.members y).0 inside) [
-      | inl old ↦ after_first cmp total x xs y up old
+      | inl old ↦ after_first cmp x xs y up old
       | inr added ↦ subst (λ z. cmp x z ≡ Less) (one_of t y added) low
     ]) adds.ascends;
     members = λ y. (

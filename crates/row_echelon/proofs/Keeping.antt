@@ -10,6 +10,7 @@ use Rattle.std.specs.FinMap.{nat_cmp-IsAntisymmetric}
 use Rattle.std.specs.declared.cmp.Ordering.TheVariants.{Greater}
 use Rattle.std.proofs.lemmas.Bool.Decides.{Decides-eqb}
 use Rattle.std.proofs.lemmas.Cmp.{ranked, by_ranked}
+use Rattle.ibp_base.proofs.Members.{in_cases, in_tail}
 use Rattle.sector_lattice.specs.Sectors.{integral_cmp}
 use Rattle.sector_lattice.specs.Orders.{integral_cmp_total, same_integrals, integrals_decide}
 use Rattle.ibp_field.specs.Arithmetic.{mul_mod}
@@ -22,6 +23,7 @@ use Rattle.ibp_algebra.specs.Combination.{combination}
 use Rattle.ibp_algebra.specs.Spans.{row_at, SameSum, InSpan, IsLead, coefficient_by}
 use Rattle.sparse_rows.specs.Rows.{IntegralSum, SameRow}
 use Rattle.ibp_algebra.proofs.CombinationLaws.{combination-weights, combination-rows}
+use Rattle.ibp_algebra.proofs.Numbers.{greater_is, nat_decides}
 use Rattle.ibp_algebra.proofs.Members.{order_decides, InSpan-same, InSpan-scale, InSpan-IsSubspace}
 use Rattle.ibp_algebra.proofs.Combinations.{AllKeys-weaker}
 use Rattle.ibp_algebra.proofs.Independence.{solved_row}
@@ -31,7 +33,7 @@ use Rattle.row_echelon.specs.declared.kept.Kept.{Kept}
 use Rattle.row_echelon.specs.Echelons.{KeptRows, row_numbered, IsNumber, InKeptSpan, AreIndependent, IsBelow}
 use Rattle.row_echelon.specs.KeptRows.{Entries, reduced_rows, originals, NoPivot, EchelonFrom, Ascends, IsEchelon}
 use Rattle.row_echelon.proofs.Pivots.{lead_is_pivot, not_both}
-use Rattle.row_echelon.proofs.KeptSpans.{original, normal_is, taken_off, contains_later, contains_cases, row_numbered-here, row_numbered-later, span_of_kept, span_of_reduced}
+use Rattle.row_echelon.proofs.KeptSpans.{original, normal_is, taken_off, row_numbered-here, row_numbered-later, span_of_kept, span_of_reduced}
 
 -- ---- no rows
 
@@ -55,7 +57,7 @@ number_below (k ∷ others) n j below h =
     ⊎_elim
     (λ (here : k.0 ≡ j). omega (arith, below 0 k (omega arith), here))
     (λ (later : IsNumber others j). number_below others n j (λ i d within. below (suc i) d (omega arith)) later)
-    (contains_cases k.0 j (map (λ row. row.0) others) h)
+    (in_cases k.0 (map (λ row. row.0) others) j h)
 
 pub row_numbered-push_new : (kept : KeptRows) (n : ℕ) (r : IntegralSum) → IsBelow kept n → row_numbered (kept ++ (n, r) ∷ []) n ≡ r
 row_numbered-push_new [] n r below = row_numbered-here (n, r) [] n refl
@@ -71,7 +73,7 @@ old_step k others added j false e h later =
     ⊎_elim
     (λ (here : k.0 ≡ j). absurd (let same : (k.0 == j) ≡ true = (Decides-eqb k.0 j).1 here in let clash : ◌≡◌ {A = Bool} true false = sym same ∙ e in cc))
     (λ (there : IsNumber others j). later there)
-    (contains_cases k.0 j (map (λ row. row.0) others) h)
+    (in_cases k.0 (map (λ row. row.0) others) j h)
 
 pub row_numbered-push_old : (kept : KeptRows) (added : ℕ × IntegralSum) (j : ℕ) → IsNumber kept j → row_numbered (kept ++ added ∷ []) j ≡ row_numbered kept j
 row_numbered-push_old [] added j h = absurd (omega (arith, h.1))
@@ -79,27 +81,21 @@ row_numbered-push_old (k ∷ others) added j h = old_step k others added j (k.0 
 
 pub number_cases : (kept : KeptRows) (added : ℕ × IntegralSum) (j : ℕ) → IsNumber (kept ++ added ∷ []) j → IsNumber kept j ⊎ (added.0 ≡ j)
 number_cases [] added j h =
-    ⊎_elim (λ (here : added.0 ≡ j). inr here) (λ (there : IsNumber [] j). absurd (omega (arith, there.1))) (contains_cases added.0 j [] h)
+    ⊎_elim (λ (here : added.0 ≡ j). inr here) (λ (there : IsNumber [] j). absurd (omega (arith, there.1))) (in_cases added.0 [] j h)
 number_cases (k ∷ others) added j h =
     ⊎_elim
     (λ (here : k.0 ≡ j). inl (0, omega arith, here))
     (λ (there : IsNumber (others ++ added ∷ []) j).
     ⊎_elim
-    (λ (old : IsNumber others j). inl (contains_later k.0 j (map (λ row. row.0) others) old))
+    (λ (old : IsNumber others j). inl (in_tail k.0 (map (λ row. row.0) others) j old))
     (λ (new : added.0 ≡ j). inr new)
     (number_cases others added j there))
-    (contains_cases k.0 j (map (λ row. row.0) (others ++ added ∷ [])) h)
+    (in_cases k.0 (map (λ row. row.0) (others ++ added ∷ [])) j h)
 
 pub Ascends-push : (kept : KeptRows) (n : ℕ) (r : IntegralSum) → Ascends kept → IsBelow kept n → Ascends (kept ++ (n, r) ∷ [])
 Ascends-push [] n r h below = (λ i d within. absurd (omega arith), tt)
 Ascends-push (k ∷ others) n r h below =
     (All-push (λ row. k.0 < row.0) others (n, r) h.0 (below 0 k (omega arith)), Ascends-push others n r h.1 (λ i d within. below (suc i) d (omega arith)))
-
-nat_decides : (a b : ℕ) → Decides (eq_by_cmp nat_cmp a b) (a ≡ b)
-nat_decides = order_decides nat_cmp nat_cmp_total nat_cmp-IsAntisymmetric
-
-greater_is : (m n : ℕ) → nat_cmp m n ≡ Greater → n < m
-greater_is m n h = by_ranked (m < n) (m ≡ n) (n < m) (nat_cmp m n) (ranked m n (nat_cmp m n) refl) (λ e _. absurd (cc)) (λ e _. absurd (cc)) (λ _ above. above)
 
 -- names that are not the new one
 old_numbers : (kept : KeptRows) (added : ℕ × IntegralSum) (c : FormalSum ℕ) → AllKeys (IsNumber (kept ++ added ∷ [])) c → AllKeys (λ j. j < added.0) c → AllKeys (IsNumber kept) c
@@ -362,9 +358,17 @@ old_number [] added j h = absurd (omega (arith, h.1))
 old_number (k ∷ others) added j h =
     ⊎_elim
     (λ (here : k.0 ≡ j). (0, omega arith, here))
-    (λ (there : IsNumber others j). contains_later k.0 j (map (λ row. row.0) (others ++ added ∷ [])) (old_number others added j there))
-    (contains_cases k.0 j (map (λ row. row.0) others) h)
+    (λ (there : IsNumber others j). in_tail k.0 (map (λ row. row.0) (others ++ added ∷ [])) j (old_number others added j there))
+    (in_cases k.0 (map (λ row. row.0) others) j h)
 
 pub new_number : (kept : KeptRows) (added : ℕ × IntegralSum) → IsNumber (kept ++ added ∷ []) added.0
 new_number [] added = (0, omega arith, refl)
-new_number (k ∷ others) added = contains_later k.0 added.0 (map (λ row. row.0) (others ++ added ∷ [])) (new_number others added)
+new_number (k ∷ others) added = in_tail k.0 (map (λ row. row.0) (others ++ added ∷ [])) added.0 (new_number others added)
+
+-- what was spanned before is spanned with one more row
+pub InKeptSpan-push : (kept : KeptRows) (added : ℕ × IntegralSum) (f : IntegralSum) → InKeptSpan kept f → InKeptSpan (kept ++ added ∷ []) f
+InKeptSpan-push kept added f h = record {
+  weights = h.weights;
+  among = AllKeys-weaker (IsNumber kept) (IsNumber (kept ++ added ∷ [])) (old_number kept added) h.weights h.among;
+  equal = SameCoefficients-trans h.equal (SameCoefficients-sym (same_combination kept added h.weights h.among));
+}

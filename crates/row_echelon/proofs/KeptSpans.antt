@@ -1,9 +1,10 @@
 -- The kept rows and their reduced forms span the same.
-use Rattle.std.proofs.Common.{◌≡◌, ◌≢◌, ◌⊎◌, inl, inr, ℕ, zero, suc, ◌<◌, ◌≤◌, Bool, true, false, if◌then◌else◌, ◌==◌, List, [], ◌∷◌, ◌++◌, length, map, append_assoc, append-nil, sym, refl, subst, ◌∙◌, ⊎_elim, arith}
+use Rattle.std.proofs.Common.{◌≡◌, ◌≢◌, ℕ, zero, suc, ◌<◌, ◌≤◌, Bool, true, false, if◌then◌else◌, ◌==◌, List, [], ◌∷◌, ◌++◌, length, map, append_assoc, append-nil, sym, refl, subst, ◌∙◌, ⊎_elim, arith}
 use Rattle.std.specs.Prelude.{ℤ, All, Contains}
 use Rattle.std.specs.Ordering.{eq_by_cmp}
 use Rattle.std.proofs.lemmas.Bool.{cases_lt}
 use Rattle.std.proofs.lemmas.Bool.Decides.{Decides-eqb}
+use Rattle.ibp_base.proofs.Members.{in_tail}
 use Rattle.sector_lattice.specs.Sectors.{integral_cmp}
 use Rattle.sector_lattice.specs.Orders.{integral_cmp_total, same_integrals, integrals_decide}
 use Rattle.ibp_algebra.specs.FormalSum.{FormalSum, AllKeys, scale, normal_form}
@@ -135,13 +136,6 @@ module _ (V : IntegralSum → Type 0) (space : IsSubspace integral_cmp V) where
 
 -- ---- rows by number
 
-pub contains_later : {X : Type 0} (x y : X) (xs : List X) → Contains xs y → Contains (x ∷ xs) y
-contains_later x y xs h = (suc h.0, omega arith, h.2)
-
-pub contains_cases : {X : Type 0} (x y : X) (xs : List X) → Contains (x ∷ xs) y → (x ≡ y) ⊎ Contains xs y
-contains_cases x y xs (zero, within, is) = inl is
-contains_cases x y xs (suc k, within, is) = inr (k, omega arith, is)
-
 row_here_step : (kept : ℕ × IntegralSum) (others : KeptRows) (n : ℕ) (b : Bool) → (kept.0 == n) ≡ b → kept.0 ≡ n → (if b then kept.1 else row_numbered others n) ≡ kept.1
 row_here_step kept others n true e is = refl
 row_here_step kept others n false e is = let same : (kept.0 == n) ≡ true = (Decides-eqb kept.0 n).1 is in absurd (let clash : ◌≡◌ {A = Bool} true false = sym same ∙ e in cc)
@@ -177,7 +171,7 @@ rows_from_numbers : (all kept : KeptRows) → OwnNumbers (row_numbered all) kept
 rows_from_numbers all [] own within = tt
 rows_from_numbers all (k ∷ others) own within = (
   subst (InKeptSpan all) own.0 (InSpan-row integral_cmp integral_cmp_total same_integrals (row_numbered all) (IsNumber all) k.0 (within k.0 (0, omega arith, refl))),
-  rows_from_numbers all others own.1 (λ n h. within n (contains_later k.0 n (map (λ row. row.0) others) h)),
+  rows_from_numbers all others own.1 (λ n h. within n (in_tail k.0 (map (λ row. row.0) others) n h)),
 )
 
 pub kept_in_span : (kept : KeptRows) → Ascends kept → AllRows (InKeptSpan kept) kept

@@ -7,12 +7,14 @@ use Rattle.std.specs.FinMap.{nat_cmp-IsAntisymmetric}
 use Rattle.std.specs.declared.cmp.Ordering.TheVariants.{Greater}
 use Rattle.std.specs.Bool.{Decides}
 use Rattle.std.proofs.lemmas.List.{take_more, get_or-take, reverse-append}
+use Rattle.ibp_base.proofs.Members.{in_tail}
 use Rattle.sector_lattice.specs.Sectors.{integral_cmp}
 use Rattle.sector_lattice.specs.Orders.{integrals_decide}
 use Rattle.ibp_field.specs.Arithmetic.{IsCongruent, add_mod, mul_mod, neg_mod}
 use Rattle.ibp_algebra.specs.FormalSum.{FormalSum, weighted_sum, AllKeys, AllBelow, IsCanonical, scale, normal_form}
 use Rattle.ibp_field.proofs.Congruence.{IsCongruent-refl, IsCongruent-trans, IsCongruent-mul, IsCongruent-from_eq}
 use Rattle.ibp_field.proofs.Inverse.{neg_mod-add}
+use Rattle.ibp_algebra.proofs.Numbers.{nat_decides}
 use Rattle.ibp_algebra.proofs.Weights.{weighted_sum-append, weighted_sum-scale, weighted_sum-SameCoefficients, SameCoefficients-from_weights}
 use Rattle.ibp_algebra.proofs.ZeroDivisors.{AllKeys-append}
 use Rattle.ibp_algebra.proofs.SumLaws.{SameCoefficients-refl, SameCoefficients-trans, SameCoefficients-append}
@@ -28,11 +30,8 @@ use Rattle.sparse_terms.proofs.Merging.{IsCanonical-append}
 use Rattle.row_echelon.specs.declared.kept.Kept.{Kept}
 use Rattle.row_echelon.specs.Echelons.{KeptRows, row_numbered, IsNumber, number_cmp}
 use Rattle.row_echelon.specs.KeptRows.{Entries, reduced_rows, originals, Ascends, IsEchelon, by_place}
-use Rattle.row_echelon.proofs.KeptSpans.{original, normal_is, OwnNumbers, own_numbers, contains_later}
+use Rattle.row_echelon.proofs.KeptSpans.{original, normal_is, OwnNumbers, own_numbers}
 use Rattle.row_echelon.proofs.Eliminating.{IsEntry-at}
-
-pub nat_decides : (a b : ℕ) → Decides (eq_by_cmp nat_cmp a b) (a ≡ b)
-nat_decides = order_decides nat_cmp nat_cmp_total nat_cmp-IsAntisymmetric
 
 -- ---- sums by place
 
@@ -92,11 +91,13 @@ kept_at : (before : List IntegralSum) (es : Entries) (place : ℕ) (e : List ℤ
 kept_at before [] place e at = absurd (let clash : ◌≡◌ {A = Option (List ℤ × Kept)} None (Some e) = at in cc)
 kept_at before (x ∷ es) zero e at =
     let one : x ≡ e = cc in
+    let here : slice_get (originals before (x ∷ es)) zero ≡ Some (e.1.number, normal_form integral_cmp (original before e)) =
     ap (λ (y : List ℤ × Kept). Some (y.1.number, normal_form integral_cmp (original before y))) one
-    ∙ ap (λ (rows : List IntegralSum). Some (e.1.number, normal_form integral_cmp (original rows e))) (sym (append-nil before))
+    in
+    subst (λ (rows : List IntegralSum). slice_get (originals before (x ∷ es)) zero ≡ Some (e.1.number, normal_form integral_cmp (original rows e))) (sym (append-nil before)) here
 kept_at before (x ∷ es) (suc place) e at =
-    kept_at (before ++ x.1.reduced ∷ []) es place e at
-    ∙ ap (λ (rows : List IntegralSum). Some (e.1.number, normal_form integral_cmp (original rows e))) (append_assoc before (x.1.reduced ∷ []) (take place (reduced_rows es)))
+    subst (λ (rows : List IntegralSum). slice_get (originals (before ++ x.1.reduced ∷ []) es) place ≡ Some (e.1.number, normal_form integral_cmp (original rows e)))
+    (append_assoc before (x.1.reduced ∷ []) (take place (reduced_rows es))) (kept_at (before ++ x.1.reduced ∷ []) es place e at)
 
 own_at : (numbered : ℕ → IntegralSum) (kept : KeptRows) (place : ℕ) (a : ℕ × IntegralSum) → OwnNumbers numbered kept → slice_get kept place ≡ Some a → numbered a.0 ≡ a.1
 own_at numbered [] place a own at = absurd (let clash : ◌≡◌ {A = Option (ℕ × IntegralSum)} None (Some a) = at in cc)
@@ -106,7 +107,7 @@ own_at numbered (k ∷ others) (suc place) a own at = own_at numbered others pla
 number_at : (kept : KeptRows) (place : ℕ) (a : ℕ × IntegralSum) → slice_get kept place ≡ Some a → IsNumber kept a.0
 number_at [] place a at = absurd (let clash : ◌≡◌ {A = Option (ℕ × IntegralSum)} None (Some a) = at in cc)
 number_at (k ∷ others) zero a at = let one : k ≡ a = cc in (0, omega arith, ap (λ (b : ℕ × IntegralSum). b.0) one)
-number_at (k ∷ others) (suc place) a at = contains_later k.0 a.0 (map (λ row. row.0) others) (number_at others place a at)
+number_at (k ∷ others) (suc place) a at = in_tail k.0 (map (λ row. row.0) others) a.0 (number_at others place a at)
 
 number_after : (kept : KeptRows) (n place : ℕ) (a : ℕ × IntegralSum) → All (λ row. n < row.0) kept → slice_get kept place ≡ Some a → n < a.0
 number_after [] n place a above at = absurd (let clash : ◌≡◌ {A = Option (ℕ × IntegralSum)} None (Some a) = at in cc)

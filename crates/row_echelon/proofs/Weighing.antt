@@ -10,6 +10,7 @@ use Rattle.sector_lattice.specs.Sectors.{integral_cmp}
 use Rattle.sector_lattice.specs.Orders.{integrals_decide}
 use Rattle.ibp_field.specs.Arithmetic.{neg_mod}
 use Rattle.ibp_algebra.specs.FormalSum.{FormalSum, weighted_sum, AllKeys, AllBelow, IsCanonical, scale}
+use Rattle.ibp_algebra.proofs.Numbers.{nat_decides}
 use Rattle.ibp_algebra.proofs.Weights.{weighted_sum-append, weighted_sum-scale, weighted_sum-SameCoefficients, SameCoefficients-from_weights}
 use Rattle.ibp_algebra.proofs.ZeroDivisors.{AllKeys-append}
 use Rattle.ibp_algebra.proofs.SumLaws.{SameCoefficients-trans}
@@ -22,7 +23,7 @@ use Rattle.sparse_terms.proofs.Merging.{IsCanonical-append}
 use Rattle.row_echelon.specs.declared.kept.Kept.{Kept}
 use Rattle.row_echelon.specs.Echelons.{row_numbered, IsNumber, number_cmp}
 use Rattle.row_echelon.specs.KeptRows.{Entries, reduced_rows, originals, IsEchelon, by_place}
-use Rattle.row_echelon.proofs.Substituting.{nat_decides, entry_number, entry_numbers, weight_found, zero_passed, AllKeys-reverse, IsCanonical-reverse, combination-reverse}
+use Rattle.row_echelon.proofs.Substituting.{entry_number, entry_numbers, weight_found, zero_passed, AllKeys-reverse, IsCanonical-reverse, combination-reverse}
 
 -- the numbers of the entries at places below an end are below n
 abbrev pub NumbersBelow : Entries → ℕ → ℕ → Type 0

@@ -1,3 +1,4 @@
 pub mod Echelons
 pub mod KeptRows
+pub mod RowSpans
 pub mod Laws

@@ -92,39 +92,3 @@ impl Echelon {
         })
     }
 }
-
-#[cfg(test)]
-mod tests {
-    use super::*;
-    use std::test::Fail;
-
-    fn row(alloc: Global, terms: &[(i16, u32)]) -> Result<Row, Fail> {
-        let mut found = Vec::new(alloc);
-        for (power, value) in terms {
-            let integral = Integral::new(&[*power]).ok_or("out of range")?;
-            found.push((integral, Residue::from_i64(i64::from(*value))))?;
-        }
-        Ok(Row::from_terms(alloc, &found)?)
-    }
-
-    #[test]
-    fn keeps_independent_rows_and_reduces(rt: HostRuntime) -> Result<(), Fail> {
-        let alloc = rt.alloc();
-        let first = row(alloc, &[(2, 2147483646), (1, 5)])?;
-        let second = row(alloc, &[(3, 2147483645), (2, 4)])?;
-        let third = row(alloc, &[(2, 2147483644), (1, 15)])?;
-        let mut echelon = Echelon::empty(alloc);
-        assert_eq!(rt; echelon.insert(&first, 1)?, Inserted::Kept);
-        assert_eq!(rt; echelon.insert(&second, 2)?, Inserted::Kept);
-        assert_eq!(rt; echelon.insert(&third, 3)?, Inserted::Dependent);
-        let reduced = echelon.reduce(alloc, &row(alloc, &[(3, 1)])?)?;
-        let one = Integral::new(&[1]).ok_or("out of range")?;
-        assert_eq!(rt; reduced.rest.terms().len(), 1);
-        assert_eq!(rt; reduced.rest.coefficient(&one), Residue::from_i64(10));
-        let weights = reduced.weights.as_slice();
-        assert_eq!(rt; weights.len(), 2);
-        assert_eq!(rt; weights[0], (1, Residue::from_i64(2147483645)));
-        assert_eq!(rt; weights[1], (2, Residue::from_i64(1073741823)));
-        Ok(())
-    }
-}

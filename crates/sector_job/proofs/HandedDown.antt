@@ -23,7 +23,7 @@ use Rattle.sector_lattice.specs.Subsectors.{is_subsector}
 use Rattle.sector_lattice.proofs.Listed.{subsector_decides}
 use Rattle.sparse_rows.specs.Rows.{IntegralSum, SameRow, coefficient_of}
 use Rattle.relation_pick.specs.Picking.{AllAnswers}
-use Rattle.relay_core.proofs.Members.{in_cases, in_head, in_tail, in_none, in_filter, from_filter}
+use Rattle.ibp_base.proofs.Members.{in_cases, in_head, in_tail, in_none, in_filter, from_filter}
 use Rattle.sector_job.specs.Candidates.{Integral, target_row, OccursFor, OccursInForm, AreTails}
 use Rattle.sector_job.specs.Handing.{is_proper, integrals_below}
 

@@ -107,11 +107,11 @@ module _ (family : FamilyData) (within : DataWithin family) (sector : ℕ) (targ
       elim (cases_lt family.budget.candidates (length fields * length seeds)) [
         | inl over ↦ (CandidatesOver, record { fields = fields; basis = basis; seeds = seeds; are_seeds = are_seeds; over = over })
         | inr few ↦ (
-          let rows = some_candidates family sector fields members seeds (λ seed inside. let is = (are_seeds.members seed).0 inside in (is.of_n, is.of_sector)) in
-          let tails = some_tails sector targets rows.0 in (
-            Worked (record { sector = record { 0 = sector }; fields = fields }) rows.0 tails.0,
-            (refl, record { basis = basis; seeds = seeds; are_seeds = are_seeds; within = few; are_candidates = rows.1; are_tails = tails.1 }),
-          ))
+            let rows = some_candidates family sector fields members seeds (λ seed inside. let is = (are_seeds.members seed).0 inside in (is.of_n, is.of_sector)) in
+            let tails = some_tails sector targets rows.0 in (
+              Worked (record { sector = record { 0 = sector }; fields = fields }) rows.0 tails.0,
+              (refl, record { basis = basis; seeds = seeds; are_seeds = are_seeds; within = few; are_candidates = rows.1; are_tails = tails.1 }),
+            ))
       ]
 
   of_done : (elements : List ModuleVector) (taken : ℕ) → EndsSo family sector (Done elements taken) → (outcome : Outcome) × IsOutcome family sector targets outcome

@@ -12,7 +12,7 @@ use Rattle.sparse_rows.specs.Rows.{IntegralSum}
 use Rattle.family.specs.FamilyData.{FamilyData}
 use Rattle.family.specs.Shapes.{ArePowers}
 use Rattle.family.specs.declared.parts.StrippedField.{StrippedField}
-use Rattle.relay_core.proofs.Members.{in_head}
+use Rattle.ibp_base.proofs.Members.{in_head}
 use Rattle.sector_job.specs.Candidates.{Integral, dots_bound, rank_bound, AreSeedsFor, AreCandidates, AreTails}
 use Rattle.sector_job.specs.Outcomes.{FitsTargets, HasBasis, IsOver, IsWorked}
 use Rattle.sector_job.proofs.SeedPowers.{seed_powers}

@@ -8,7 +8,7 @@ use Rattle.sparse_rows.specs.Rows.{IntegralSum, coefficient_of, is_zero_integral
 use Rattle.family.specs.Conditions.{is_zero_sector}
 use Rattle.family.specs.FamilyData.{FamilyData}
 use Rattle.family.specs.declared.parts.StrippedField.{StrippedField}
-use Rattle.relay_core.proofs.Members.{in_none}
+use Rattle.ibp_base.proofs.Members.{in_none}
 use Rattle.sector_job.specs.Candidates.{Integral, AreCandidates, AreTails}
 use Rattle.sector_job.specs.CandidateRows.{candidate_at}
 use Rattle.sector_job.specs.Outcomes.{FitsTargets, IsOutcome, tails_in}

@@ -21,7 +21,7 @@ use Rattle.sector_lattice.specs.Seeds.{AreSeeds}
 use Rattle.sparse_rows.specs.Rows.{IntegralSum, coefficient_of, is_zero_integral}
 use Rattle.family.specs.FamilyData.{FamilyData}
 use Rattle.family.specs.declared.parts.StrippedField.{StrippedField}
-use Rattle.relation_pick.specs.Picking.{WholeSpan}
+use Rattle.row_echelon.specs.RowSpans.{WholeSpan}
 
 -- the greatest value at an integral of the list
 abbrev pub greatest : (Integral → ℕ) → List Integral → ℕ

@@ -11,7 +11,7 @@ use Rattle.sparse_rows.specs.Rows.{IntegralSum}
 use Rattle.family.specs.Within.{DataWithin}
 use Rattle.family.specs.FamilyData.{FamilyData}
 use Rattle.family.specs.declared.parts.StrippedField.{StrippedField}
-use Rattle.relay_core.proofs.Members.{same_members}
+use Rattle.ibp_base.proofs.Ascending.{same_members}
 use Rattle.sector_module.specs.Factors.{sector_generators}
 use Rattle.sector_module.proofs.OneBasis.{one_basis as one_list_of_fields}
 use Rattle.sector_module.specs.Generators.{GeneratorsValue}

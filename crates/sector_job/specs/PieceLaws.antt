@@ -10,7 +10,7 @@ use Rattle.family.specs.FamilyView.{family_view}
 use Rattle.family.specs.declared.family.Family.{Family}
 use Rattle.family.specs.Shapes.{ArePowers}
 use Rattle.relay_core.specs.Family.{AreLawful}
-use Rattle.relay_core.proofs.Members.{from_filter, in_none}
+use Rattle.ibp_base.proofs.Members.{from_filter, in_none}
 use Rattle.sector_job.specs.Candidates.{Integral}
 use Rattle.sector_job.specs.Outcomes.{FitsTargets, IsOutcome, tails_in}
 use Rattle.sector_job.specs.Results.{opening_of, tails_of_plan}

@@ -1,6 +1,7 @@
 // The bounds of the seeds of a sector, and how many candidates they give.
-ghost use Rattle.std.specs.Prelude.{◌≡◌, ◌↔◌, ◌≤◌, ◌<◌, ◌^◌, ◌*◌, IsTrue};
+ghost use Rattle.std.specs.Prelude.{◌≡◌, ◌↔◌, ◌≤◌, ◌<◌, ◌*◌, IsTrue};
 ghost use Rattle.sector_lattice.specs.Sectors.{dots_of, rank_of};
+ghost use Rattle.sector_lattice.specs.Ranges.{HasSeedBounds};
 ghost use Rattle.sector_lattice.specs.Seeds.{seed_number};
 ghost use Rattle.family.specs.FamilyView.{family_view};
 ghost use Rattle.sector_job.specs.Candidates.{greatest, dots_bound, rank_bound};
@@ -48,9 +49,7 @@ fn greatest_rank(targets: &[Integral]) -> u32
 
 /// Whether so many fields at the seeds of the sector are more candidates than the family allows.
 pub fn are_too_many(family: &Family, fields: usize, sector: Sector, dots: u32, rank: u32) -> bool
-    requires within { sector.0 < 2 ^ family.now.n }
-    requires few_dots { dots ≤ SEED_LIMIT }
-    requires low_rank { rank ≤ SEED_LIMIT }
+    requires { HasSeedBounds sector.0 family.now.n dots rank }
     ensures { IsTrue result ↔ (family.now.budget.candidates < fields * seed_number sector.0 family.now.n dots rank) }
 {
     let seeds = seed_count(sector, family.n, dots, rank);

@@ -9,8 +9,6 @@ mod plan;
 mod sector_result;
 mod seeding;
 mod tails;
-#[cfg(test)]
-mod tests;
 mod working;
 
 pub use outcome::Outcome;

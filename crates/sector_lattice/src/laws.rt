@@ -1,10 +1,12 @@
-//! Laws of the orders and of the subsector relation, each the contract of a call that does nothing.
+//! Laws of the orders, of the subsector relation and of the limits, each the contract of a call that does nothing.
 ghost use Rattle.std.specs.Prelude.{◌≡◌, ◌<◌, ◌≤◌, ◌-◌, ◌↔◌, IsTrue, ℕ, ℤ, pos, List, slice_index_or, bit_and};
 ghost use Rattle.std.specs.Cmp.{IsTotalOrder};
 ghost use Rattle.sector_lattice.specs.Sectors.{IsMember, is_positive, sector_of, IsSubsector, IsProperSubsector, sector_cmp, integral_cmp};
 ghost use Rattle.sector_lattice.specs.Subsectors.{is_subsector, is_subsector_of_any, IsListedSubsector};
 ghost use Rattle.sector_lattice.specs.declared.sector.Sector.{Sector};
 
+use crate::integral::{LINES, POWER};
+use crate::seeding::SEED_LIMIT;
 use std::cmp::Ordering;
 
 /// The sector order is total, and only equal sectors tie.
@@ -36,4 +38,12 @@ pub fn subsector_tests()
 /// The members of an integral's sector are the places of its positive powers.
 pub fn sector_members()
     ensures { (powers : List ℤ) (i : ℕ) → IsMember (sector_of powers) i ↔ ((1 ≤ i) × IsTrue (is_positive (slice_index_or powers (i - 1) (pos 0)))) }
+{}
+
+/// The limits: how many powers an integral has at most, how far a power is from zero at most, and the most dots and
+/// the most rank of seeds.
+pub fn limits()
+    ensures lines { LINES ≡ 9 }
+    ensures power { POWER ≡ pos 600 }
+    ensures seeds { SEED_LIMIT ≡ 20 }
 {}

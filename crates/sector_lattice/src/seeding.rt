@@ -1,6 +1,6 @@
 // The seeds of a sector, and their number.
 ghost use Rattle.std.specs.Prelude.{◌≡◌, ◌+◌, ◌-◌, ◌*◌, ◌^◌, ◌<◌, ◌≤◌, ◌≤ℤ◌, neg_ℤ, ◌++◌, length, take, map, count_ones, ◌⊎◌, ◌↔◌, [], ◌∷◌, if◌then◌else◌, ◌==◌, IfOk, OnOk, IsTrue};
-ghost use Rattle.sector_lattice.specs.Ranges.{AreSmall, InRange};
+ghost use Rattle.sector_lattice.specs.Ranges.{AreSmall, InRange, HasSeedBounds};
 ghost use Rattle.sector_lattice.specs.Seeds.{AreSeeds, binomial, seed_number};
 ghost use Rattle.sector_lattice.specs.Layers.{joined, layer, layers, power_of, dots_left, rank_left, to_spend};
 
@@ -15,11 +15,7 @@ pub const SEED_LIMIT: u32 = 20;
 /// The number of seeds: so many dots at most are spread over the lines, and so much rank at most
 /// over the other variables.
 pub fn seed_count(sector: Sector, n: u8, dots: u32, rank: u32) -> u64
-    requires some { 1 ≤ n }
-    requires few { n ≤ LINES }
-    requires within { sector.0 < 2 ^ n }
-    requires few_dots { dots ≤ SEED_LIMIT }
-    requires low_rank { rank ≤ SEED_LIMIT }
+    requires { HasSeedBounds sector.0 n dots rank }
     ensures { result ≡ seed_number sector.0 n dots rank }
 {
     let members = lines(sector);
@@ -49,11 +45,7 @@ pub fn seeds(
     dots: u32,
     rank: u32,
 ) -> Result<List<Integral>, NoMemory>
-    requires some { 1 ≤ n }
-    requires few { n ≤ LINES }
-    requires within { sector.0 < 2 ^ n }
-    requires few_dots { dots ≤ SEED_LIMIT }
-    requires low_rank { rank ≤ SEED_LIMIT }
+    requires { HasSeedBounds sector.0 n dots rank }
     ensures seeds { IfOk result (λ seeds. AreSeeds sector.0 n dots rank seeds) }
     ensures number { IfOk result (λ seeds. length seeds ≡ seed_number sector.0 n dots rank) }
 {
@@ -69,11 +61,7 @@ fn in_layers(
     dots: u32,
     rank: u32,
 ) -> Result<Vec<Integral>, NoMemory>
-    requires some { 1 ≤ length powers.old }
-    requires few { length powers.old ≤ LINES }
-    requires within { sector < 2 ^ length powers.old }
-    requires few_dots { dots ≤ SEED_LIMIT }
-    requires low_rank { rank ≤ SEED_LIMIT }
+    requires { HasSeedBounds sector (length powers.old) dots rank }
     ensures { IfOk result (λ seeds. seeds.items ≡ layers (length powers.old) sector dots rank) }
 {
     let mut found = Vec::new(alloc);
@@ -91,11 +79,7 @@ fn add_of_dots(
     dots: u32,
     rank: u32,
 ) -> Result<(), NoMemory>
-    requires some { 1 ≤ length powers.old }
-    requires few { length powers.old ≤ LINES }
-    requires within { sector < 2 ^ length powers.old }
-    requires few_dots { dots ≤ SEED_LIMIT }
-    requires low_rank { rank ≤ SEED_LIMIT }
+    requires { HasSeedBounds sector (length powers.old) dots rank }
     ensures { OnOk result (found.new.items ≡ found.old.items ++ joined (λ r. layer (length powers.old) sector dots r) (rank + 1)) }
 {
     for spent in 0..rank + 1 {

@@ -1,5 +1,6 @@
 // The proper supersectors of a sector.
 ghost use Rattle.std.specs.Prelude.{◌≡◌, ◌-◌, ◌^◌, ◌<◌, ◌≤◌, ◌++◌, map, IfOk, OnOk};
+ghost use Rattle.sector_lattice.specs.Ranges.{IsSectorOf};
 ghost use Rattle.sector_lattice.specs.Sectors.{AreSupersectors};
 ghost use Rattle.sector_lattice.specs.Above.{is_above, one_above, of_lines, all_above};
 
@@ -10,9 +11,7 @@ use std::alloc::Global;
 
 /// The proper supersectors among `n` places, in the sector order.
 pub fn supersectors(alloc: Global, sector: Sector, n: u8) -> Result<List<Sector>, NoMemory>
-    requires some { 1 ≤ n }
-    requires few { n ≤ LINES }
-    requires within { sector.0 < 2 ^ n }
+    requires { IsSectorOf sector.0 n }
     ensures { IfOk result (λ found. AreSupersectors sector.0 n (map (λ s. s.0) found)) }
 {
     Ok(List::from_vec(all_supersectors(alloc, sector, n)?))
@@ -41,7 +40,7 @@ fn add_of_lines(found: &mut Vec<Sector>, sector: Sector, n: u8, members: u8) -> 
 }
 
 // How many sectors `n` places have.
-pub fn sector_count(n: u8) -> u16
+fn sector_count(n: u8) -> u16
     requires few { n ≤ LINES }
     ensures value { result ≡ 2 ^ n }
     ensures bound { result ≤ 512 }

@@ -1,40 +1,21 @@
 -- The factors that the code makes, and their degrees.
-use Rattle.std.proofs.Common.{◌≡◌, ℕ, zero, suc, ◌+◌, ◌-◌, ◌*◌, ◌<◌, ◌≤◌, Bool, true, false, if◌then◌else◌, ⊎_elim, List, [], ◌∷◌, ◌++◌, length, get_or, set, sum, replicate, refl, ap, ◌∙◌, arith}
+use Rattle.std.proofs.Common.{◌≡◌, ℕ, zero, suc, ◌+◌, ◌-◌, ◌*◌, ◌<◌, ◌≤◌, Bool, true, false, if◌then◌else◌, List, [], ◌∷◌, ◌++◌, length, set, sum, replicate, refl, ap, ◌∙◌, arith}
 use Rattle.std.specs.Prelude.{slice_index}
-use Rattle.std.proofs.lemmas.Bool.{cases_lt}
-use Rattle.std.proofs.lemmas.List.{set_past, length-set}
+use Rattle.std.proofs.lemmas.List.{length-set}
 use Rattle.std.proofs.lemmas.List.Sums.{sum_by-cons}
 use Rattle.ibp_algebra.specs.FormalSum.{AllKeys, IsCanonical, times_term}
-use Rattle.ibp_algebra.specs.Exponents.{add_exponents, same_exponents, deg_rev_lex}
-use Rattle.ibp_algebra.specs.ExponentOrder.{exponents_decide, deg_rev_lex_total}
+use Rattle.ibp_algebra.specs.Exponents.{add_exponents, deg_rev_lex}
 use Rattle.ibp_algebra.specs.Field.{unit_exponents, variable}
 use Rattle.ibp_algebra.specs.Polynomial.{Polynomial, SamePolynomial, degree_of, derivative, multiply}
-use Rattle.ibp_algebra.proofs.SumOfExponents.{sum-add_exponents, get_or-le-sum, sum-set}
+use Rattle.ibp_algebra.proofs.SumOfExponents.{sum-add_exponents, get_or-le-sum, sum-set, one_less}
+use Rattle.ibp_algebra.proofs.Degrees.{AllKeys-same, degree_within}
 use Rattle.ibp_algebra.proofs.SumLaws.{SameCoefficients-from_eq, SameCoefficients-trans}
-use Rattle.ibp_algebra.proofs.Terms.{coefficient-CountingKeys, AllKeys-canonical}
-use Rattle.ibp_algebra.proofs.Divisibility.{CountingKeys-from_all}
 use Rattle.ibp_algebra.proofs.PolynomialLaws.{SamePolynomial-multiply}
 use Rattle.ibp_algebra.proofs.ZeroDivisors.{AllKeys-append}
 use Rattle.mono_order.proofs.Terms.{add_exponents-one}
 use Rattle.ibp_algebra.proofs.ReverseLex.{sum-ones}
 
 -- ---- degrees
-
--- what holds of each term of a sum holds of each term of a canonical one with the same coefficients
-pub AllKeys-same : (P : List ℕ → Type 0) (f g : Polynomial) → IsCanonical deg_rev_lex f → SamePolynomial f g → AllKeys P g → AllKeys P f
-AllKeys-same P f g canonical same h =
-    AllKeys-canonical same_exponents exponents_decide deg_rev_lex deg_rev_lex_total P f canonical
-    (λ key counts. coefficient-CountingKeys same_exponents exponents_decide P g (CountingKeys-from_all P g h) key
-    (λ zero. counts (same.same_at key ∙ zero)))
-
-pub degree_within : (degree : ℕ) (f : Polynomial) → AllKeys (λ m. sum m ≤ degree) f → degree_of f ≤ degree
-degree_within degree [] h = omega arith
-degree_within degree (t ∷ f) h = omega (arith, h.0, degree_within degree f h.1)
-
-one_less : (i : ℕ) (m : List ℕ) → sum (set m i (get_or m i 0 - 1)) ≤ sum m
-one_less i m =
-    ⊎_elim (λ (within : i < length m). omega (arith, sum-set m i (get_or m i 0 - 1) within)) (λ (past : length m ≤ i). rw (set_past m i (get_or m i 0 - 1) past) (omega arith))
-    (cases_lt i (length m))
 
 derivative_degree : (degree i : ℕ) (f : Polynomial) → AllKeys (λ m. sum m ≤ degree) f → AllKeys (λ m. sum m ≤ degree) (derivative i f)
 derivative_degree degree i [] h = tt

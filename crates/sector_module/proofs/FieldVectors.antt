@@ -26,7 +26,7 @@ use Rattle.sector_module.specs.SectorBasis.{vector_of, field_vector, IsCanonical
 use Rattle.sector_module.proofs.Syzygies.{IsPolynomialIn, IsInRange, IsSyzygy}
 use Rattle.sector_module.proofs.Fields.{IsInModule-syzygy}
 use Rattle.sector_module.proofs.Components.{components_from, SameVector-field_of}
-use Rattle.sector_module.proofs.FactorLaws.{AllKeys-same}
+use Rattle.ibp_algebra.proofs.Degrees.{AllKeys-same}
 use Rattle.sector_module.proofs.OneBasis.{with_last}
 use Rattle.sector_module.proofs.Splitting.{NoneFrom}
 use Rattle.sector_module.proofs.Variables.{HasVariables-from_IsInFirst}

@@ -18,8 +18,9 @@ use Rattle.module_vec.specs.ModuleVector.{ModuleVector, SameVector}
 use Rattle.module_vec.proofs.Multiples.{AllKeys-map_keys}
 use Rattle.module_vec.proofs.NormalForms.{is_normal_form, SameVector-normal}
 use Rattle.family.specs.Conditions.{in_sector}
-use Rattle.sector_module.specs.Factors.{sector_factor, factors_from, sector_factors, at_component, unit_vector, factor_generator, factor_generators, sector_generators}
-use Rattle.sector_module.proofs.FactorLaws.{AllKeys-same}
+use Rattle.ibp_algebra.specs.Field.{sector_factor}
+use Rattle.sector_module.specs.Factors.{factors_from, sector_factors, at_component, unit_vector, factor_generator, factor_generators, sector_generators}
+use Rattle.ibp_algebra.proofs.Degrees.{AllKeys-same}
 use Rattle.sector_module.proofs.Fields.{length-factors}
 use Rattle.sector_module.proofs.OneBasis.{at_weight, other_weight, same_number}
 

@@ -13,6 +13,5 @@ pub mod FactorLaws
 pub mod MemberSums
 pub mod Generating
 pub mod FieldVectors
-pub mod Zips
 pub mod FieldLimits
 pub mod SomeBasis

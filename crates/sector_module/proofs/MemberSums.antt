@@ -11,7 +11,7 @@ use Rattle.ibp_algebra.specs.Polynomial.{Polynomial, SamePolynomial, multiply}
 use Rattle.ibp_algebra.proofs.ModuleLaws.{IsInModule-from_derivative, derivative-IsInModule}
 use Rattle.ibp_algebra.proofs.PolynomialLaws.{same_polynomials, SamePolynomial-append, SamePolynomial-multiply}
 use Rattle.ibp_algebra.proofs.SumLaws.{SameCoefficients-refl, SameCoefficients-sym, SameCoefficients-trans, SameCoefficients-from_eq}
-use Rattle.sector_module.specs.Factors.{sector_factor}
+use Rattle.ibp_algebra.specs.Field.{sector_factor}
 
 stripped_derivative-append : (place : ℕ) (inside : ℕ → Bool) (a b : List Polynomial) (p : Polynomial)
     → stripped_derivative_from place inside (a ++ b) p ≡ stripped_derivative_from place inside a p ++ stripped_derivative_from (place + length a) inside b p

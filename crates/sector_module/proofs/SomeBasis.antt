@@ -1,5 +1,5 @@
 -- The run of a sector ends, and where it is done the module of the sector has a reduced basis.
-use Rattle.std.proofs.Common.{◌≡◌, ◌≢◌, ℕ, zero, suc, ◌+◌, ◌<◌, ◌≤◌, List, [], ◌∷◌, map, length, get_or, sum, refl, sym, subst, ◌∙◌, ap, lit<, arith}
+use Rattle.std.proofs.Common.{◌≡◌, ◌≢◌, ℕ, zero, suc, ◌+◌, ◌<◌, ◌≤◌, List, [], ◌∷◌, map, length, get_or, sum, sym, subst, ◌∙◌, ap, arith}
 use Rattle.std.specs.List.{All, AllByRecursion, AllZip}
 use Rattle.std.proofs.lemmas.List.{get_or-map, length-map}
 use Rattle.std.proofs.lemmas.List.Elements.{All-from_recursion, recursion_from_All, All-weaker}
@@ -11,7 +11,7 @@ use Rattle.ibp_algebra.proofs.Combinations.{AllKeys-weaker}
 use Rattle.ibp_algebra.proofs.NormalForm.{IsCanonical-normal_form, AllKeys-normal_form, SameCoefficients-normal_form}
 use Rattle.mono_order.specs.declared.limits.TheConstants.{RUN_DEGREE}
 use Rattle.mono_order.specs.Term.{Term, IsTerm}
-use Rattle.mono_order.specs.TermOrder.{over_position, zero_dominates, zero_high}
+use Rattle.mono_order.specs.TermOrder.{over_position, zero_dominates}
 use Rattle.mono_order.specs.BlockOrders.{zero_dominates_laws}
 use Rattle.module_vec.specs.ModuleVector.{ModuleVector, IsVector, component_of}
 use Rattle.module_vec.proofs.Components.{component_keys}
@@ -25,7 +25,7 @@ use Rattle.family.specs.Conditions.{IsInSectorModule}
 use Rattle.sector_module.specs.Factors.{factor_generator, factor_generators, sector_factors, sector_generators, SectorRunEnds}
 use Rattle.sector_module.specs.FieldsOf.{IsComponentOf, IsFieldOf}
 use Rattle.sector_module.specs.SectorBasis.{IsSectorBasis}
-use Rattle.sector_module.proofs.Syzygies.{IsPolynomialIn, IsSyzygy}
+use Rattle.sector_module.proofs.Syzygies.{IsSyzygy}
 use Rattle.sector_module.proofs.Components.{components_from, length-components}
 use Rattle.sector_module.proofs.FieldVectors.{fields_members, fields_basis}
 use Rattle.sector_module.proofs.Generating.{generator_some}

@@ -1,27 +1,21 @@
 -- The factors of a sector, the vectors that its run begins with, and how that run ends.
 -- Textbook theory of syzygies: they are the members without component 0 of the module of these vectors (elimination).
---     sector_factor p sector i          f_i: the derivative of p by the variable at place i, times that variable for
---                                       a place of the sector
 --     sector_factors p n sector         f_1 to f_n and -p, whose syzygies are the stripped fields of the sector's module
 --     at_component i f                  the vector f e_i
 --     factor_generators variables 1 fs  the vectors f_i e_0 + e_i
 --     sector_generators p n sector      those of the factors of the sector, each in canonical form
 --     SectorRunEnds p n sector pairs    the plain run of these vectors with this budget of pairs ends so
-use Rattle.std.specs.Prelude.{ℕ, zero, suc, Bool, if◌then◌else◌, replicate, map, List, [], ◌∷◌, ◌++◌}
+use Rattle.std.specs.Prelude.{ℕ, zero, suc, Bool, replicate, map, List, [], ◌∷◌, ◌++◌}
 use Rattle.ibp_algebra.specs.FormalSum.{scale, map_keys, normal_form}
-use Rattle.ibp_algebra.specs.Polynomial.{Polynomial, multiply, derivative}
-use Rattle.ibp_algebra.specs.Field.{variable}
+use Rattle.ibp_algebra.specs.Polynomial.{Polynomial}
+use Rattle.ibp_algebra.specs.Field.{sector_factor}
 use Rattle.mono_order.specs.declared.limits.TheConstants.{VARIABLES, RUN_DEGREE}
 use Rattle.mono_order.specs.TermOrder.{zero_dominates}
 use Rattle.module_vec.specs.ModuleVector.{ModuleVector}
 use Rattle.module_basis.specs.PlainRun.{RunEnd, RunsTo}
 use Rattle.family.specs.Conditions.{in_sector}
 
--- places are counted from 0
-abbrev pub sector_factor : Polynomial → (ℕ → Bool) → ℕ → Polynomial
-sector_factor p inside i = if inside i then multiply (variable i) (derivative i p) else derivative i p
-
--- those from place i on
+-- those from place i on, and places are counted from 0
 abbrev pub factors_from : Polynomial → (ℕ → Bool) → ℕ → ℕ → List Polynomial
 factors_from p inside i zero = scale 2147483646 p ∷ []
 factors_from p inside i (suc n) = sector_factor p inside i ∷ factors_from p inside (suc i) n

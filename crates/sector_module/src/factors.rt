@@ -6,7 +6,7 @@ ghost use Rattle.ibp_algebra.specs.FormalSum.{AllKeys};
 ghost use Rattle.ibp_algebra.specs.Polynomial.{SamePolynomial};
 ghost use Rattle.sparse_poly.specs.declared.limits.TheConstants.{DEGREE_LIMIT};
 ghost use Rattle.family.specs.Conditions.{in_sector};
-ghost use Rattle.sector_module.specs.Factors.{sector_factor};
+ghost use Rattle.ibp_algebra.specs.Field.{sector_factor};
 
 use family::Family;
 use ibp_base::NoMemory;

@@ -138,35 +138,3 @@ impl PartialEq for Row {
 impl Eq for Row {
     ghost laws = { same_terms_equiv };
 }
-
-#[cfg(test)]
-mod tests {
-    use super::*;
-    use std::test::Fail;
-
-    fn integral(powers: &[i16]) -> Result<Integral, Fail> {
-        let found = Integral::new(powers).ok_or("out of range")?;
-        Ok(found)
-    }
-
-    fn is_shared<T: Send + Sync>(_: &T) {}
-
-    #[test]
-    fn strikes_a_sector_and_subtracts_the_rest(rt: HostRuntime) -> Result<(), Fail> {
-        let alloc = rt.alloc();
-        let both = integral(&[1, 2])?;
-        let second = integral(&[0, 2])?;
-        let row = Row::from_terms(alloc, &[(second, Residue::one()), (both, Residue::one())])?;
-        assert!(rt; row.terms() == [(both, Residue::one()), (second, Residue::one())].as_slice());
-        assert_eq!(rt; row.coefficient(&second), Residue::one());
-        let struck = row.strike(alloc, &[Sector(2)])?;
-        assert!(rt; struck.terms() == [(both, Residue::one())].as_slice());
-        let rest = row.add_multiple(alloc, Residue::from_i64(-1), &struck)?;
-        assert!(rt; rest.terms() == [(second, Residue::one())].as_slice());
-        assert!(rt; rest.lead() == Some((second, Residue::one())));
-        assert!(rt; rest == rest.copy(alloc)? && rest != row);
-        assert!(rt; Row::from_terms(alloc, &[])?.lead().is_none());
-        is_shared(&rest);
-        Ok(())
-    }
-}

@@ -15,6 +15,3 @@ pub use integrals::print_row;
 pub use polynomials::print_poly;
 pub use systems::print_system;
 pub use value::{Reduction, SectorBlock, System, Written};
-
-#[cfg(test)]
-mod tests;

@@ -5,7 +5,8 @@ use Rattle.std.proofs.lemmas.Bool.Decides.{Decides-at}
 use Rattle.sparse_poly.specs.Equality.{one_polynomial-Decides}
 use Rattle.sparse_poly.specs.declared.limits.TheConstants.{DEGREE_LIMIT}
 use Rattle.ibp_relation.specs.Shifts.{HasDegree}
-use Rattle.ibp_relation.proofs.Degrees.{HasDegree-derivative, degree_within}
+use Rattle.ibp_relation.proofs.Degrees.{HasDegree-derivative}
+use Rattle.ibp_algebra.proofs.Degrees.{degree_within}
 use Rattle.ibp_relation.proofs.Tangents.{along_step, Decides-tangent}
 use Rattle.ibp_relation.proofs.conditions.is_tangent.Goals as goal
 

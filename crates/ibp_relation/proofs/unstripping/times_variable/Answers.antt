@@ -5,7 +5,7 @@ use Rattle.ibp_algebra.specs.Field.{variable}
 use Rattle.ibp_algebra.specs.FormalSum.{IsCanonical}
 use Rattle.ibp_algebra.specs.Polynomial.{SamePolynomial, multiply}
 use Rattle.mono_order.specs.declared.limits.TheConstants.{RUN_DEGREE, VARIABLES}
-use Rattle.ibp_relation.proofs.Degrees.{degree_within}
+use Rattle.ibp_algebra.proofs.Degrees.{degree_within}
 use Rattle.ibp_relation.proofs.UnstrippedForms.{product_by_variable, variable_degree}
 use Rattle.ibp_relation.proofs.unstripping.times_variable.Goals as goal
 

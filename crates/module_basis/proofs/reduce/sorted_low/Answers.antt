@@ -1,8 +1,10 @@
 use Rattle.std.proofs.Common.{◌≡◌, ◌+◌, ◌++◌, ◌∷◌, true, false, List, take, drop, sym, subst, ap, ◌∙◌}
+use Rattle.std.specs.List.{prefix_len}
+use Rattle.std.specs.Ordering.{is_lt}
 use Rattle.mono_order.specs.Term.{Term}
 use Rattle.module_vec.specs.ModuleVector.{ModuleVector, lead}
-use Rattle.module_basis.specs.Reducing.{descending_place, insert_descending}
-use Rattle.module_basis.proofs.Keeping.{IsSorting, insert_descending-place, IsSorting-high, IsSorting-low, IsSorting-end}
+use Rattle.module_basis.proofs.Reducing.{insert_descending}
+use Rattle.module_basis.proofs.Keeping.{descending_place, descending_place-is, IsSorting, insert_descending-place, IsSorting-high, IsSorting-low, IsSorting-end}
 use Rattle.module_basis.proofs.reduce.sorted_low.Goals.{then-not-is_high+in_ok-copy+in_ok-insert, else-not-is_high}
 use Rattle.module_basis.proofs.reduce.sorted_low.Goals as goal
 
@@ -11,14 +13,16 @@ loop-element-preserved g c =
     let laws = g.met.O.TermOrder.laws in
     let order = g.O.TermOrder.order in
     let high = g.O.TermOrder.high in
-    let component : c.lead.inside.component ≡ (lead c.element-item.result).0 = ap (λ (t : Term). t.0) (c.lead.view_is ∙ c.lead_of-lead.ensures.lead) in
+    let component : c.lead.inside.component ≡ (lead c.element-item.result).0 = ap (λ (t : Term). t.0) (c.lead.view_is ∙ c.lead_term-lead.ensures.lead) in
     let test : c.is_high.result ≡ g.O.TermOrder.high (lead c.element-item.result).0 = c.is_high.ensures ∙ ap g.O.TermOrder.high component in
     elim c.if-not-is_high.branch [
       | then-not-is_high+in_ok-copy+in_ok-insert w ↦
           let low : g.O.TermOrder.high (lead c.element-item.result).0 ≡ false = sym test ∙ w.if-not-is_high.true in
           let deref : w.deref.result.now ≡ c.loop-element.sorted.items = cc in
           let place : w.place_of-place.result ≡ descending_place order (lead c.element-item.result) c.loop-element.sorted.items =
-          w.place_of-place.ensures.place ∙ (λ i. descending_place order (c.lead_of-lead.ensures.lead i) (deref i))
+          w.place_of-place.ensures.place
+          ∙ ((λ i. prefix_len (λ v. is_lt (order (c.lead_term-lead.ensures.lead i) (lead v))) (deref i))
+          ∙ sym (descending_place-is order (lead c.element-item.result) c.loop-element.sorted.items))
           in
           let items : c.if-not-is_high.sorted.items ≡ insert_descending order c.element-item.result c.loop-element.sorted.items =
           (λ k. (w.sorted-is k).items)

@@ -1,9 +1,13 @@
 use Rattle.std.proofs.Common.{◌≡◌, true, length, ap, refl, rules, arith}
 use Rattle.mono_order.specs.declared.limits.TheConstants.{RUN_DEGREE}
-use Rattle.module_vec.specs.ModuleVector.{multiple_value}
-use Rattle.module_vec.specs.Division.{is_over_degree, multiple_with_lead}
+use Rattle.module_vec.specs.ModuleVector.{ModuleVector, multiple_value}
+use Rattle.module_vec.proofs.DivisionLaws.{DividesTo-unique}
+use Rattle.module_vec.specs.Division.{Remainder, OverDegree, is_over_degree, multiple_with_lead}
 use Rattle.module_division.proofs.Prefixes.{placed, Cancels, Settled-moved, Settled-over, Settled-end, Settled-cancelled, moved_falls, cancelled_falls, positive_at}
 use Rattle.module_division.proofs.division.normal_form.Goals as goal
+
+remainder_not_over : {r : ModuleVector} → Remainder r ≡ OverDegree → ⊥
+remainder_not_over e = cc
 
 pub cancelled-requires-clause-positive : goal.cancelled-requires-clause-positive
 cancelled-requires-clause-positive g c =
@@ -62,3 +66,10 @@ pub returns-clause-remainder : goal.returns-clause-remainder
 returns-clause-remainder g c =
     Settled-end g.O.TermOrder.order RUN_DEGREE c.args.list.now c.args.v.now c.steps.rest c.steps.settled
     (omega (arith, c.steps-test.false, ap length c.terms.ensures.same)) c.steps.invariant
+
+pub returns-clause-within : goal.returns-clause-within
+returns-clause-within g c = λ over.
+    remainder_not_over
+    (DividesTo-unique g.O.TermOrder.order RUN_DEGREE c.args.list.now c.args.v.now _ _
+    (Settled-end g.O.TermOrder.order RUN_DEGREE c.args.list.now c.args.v.now c.steps.rest c.steps.settled
+    (omega (arith, c.steps-test.false, ap length c.terms.ensures.same)) c.steps.invariant) over)

@@ -1,6 +1,6 @@
 use Rattle.std.proofs.Common.{drop}
 use Rattle.mono_order.specs.declared.limits.TheConstants.{RUN_DEGREE}
-use Rattle.module_vec.specs.Division.{lead_measure}
+use Rattle.module_vec.proofs.Measure.{lead_measure}
 use Rattle.module_division.proofs.Prefixes.{Settled}
 use Rattle.module_division.proofs.division.normal_form.Given as goal
 

@@ -1,7 +1,8 @@
 use Rattle.std.proofs.Common.{◌+◌, sym, ap, rules}
 use Rattle.std.specs.Prelude.{nat_lt}
 use Rattle.std.proofs.lemmas.List.Sorted.{IsPartitionPoint-from_clause}
-use Rattle.neat_system.proofs.Numbers.{partitioned, count_at}
+use Rattle.relation_pick.proofs.Places.{count_at}
+use Rattle.neat_system.proofs.Numbers.{partitioned}
 use Rattle.neat_system.proofs.reductions.number_of.Goals as goal
 
 pub returns : goal.returns

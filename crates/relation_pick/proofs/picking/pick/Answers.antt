@@ -4,7 +4,8 @@ use Rattle.sector_lattice.specs.Sectors.{integral_cmp}
 use Rattle.sector_lattice.specs.Orders.{integral_cmp_total, same_integrals}
 use Rattle.relation_pick.specs.Picking.{IsPick}
 use Rattle.relation_pick.specs.Marks.{AnyNamed, ListsNamed}
-use Rattle.relation_pick.proofs.Finishing.{names_listed, IsPick-whole, IsIrredundant-pick}
+use Rattle.relation_pick.proofs.Finishing.{names_listed, IsPick-whole}
+use Rattle.relation_pick.proofs.ByRows.{pick_is_irredundant}
 use Rattle.relation_pick.proofs.picking.pick.Goals as goal
 
 pub named_places-requires-clause-within : goal.named_places-requires-clause-within
@@ -25,4 +26,4 @@ returns-clause-pick c =
 pub returns-clause-irredundant : goal.returns-clause-irredundant
 returns-clause-irredundant c =
     let answers = c.in_ok-answers.answers in
-    IsIrredundant-pick integral_cmp c.args.candidates.now integral_cmp_total same_integrals c.args.targets.now c.from_vec.result answers.reductions answers.weights (returns-clause-pick c)
+    pick_is_irredundant integral_cmp integral_cmp_total same_integrals c.args.candidates.now c.args.targets.now c.from_vec.result answers.reductions answers.weights (returns-clause-pick c)

@@ -2,7 +2,7 @@ use Rattle.std.proofs.Common.{refl, sym, subst, arith}
 use Rattle.std.specs.Prelude.{Contains, map, IsTrue}
 use Rattle.std.proofs.lemmas.List.Elements.{AllWithin-more, at_read}
 use Rattle.sector_lattice.specs.Sectors.{sector_of}
-use Rattle.relay_core.proofs.Found.{everywhere, read}
+use Rattle.ibp_base.proofs.Members.{everywhere, read}
 use Rattle.relay_core.proofs.SectorBooks.{reached_by, a_member}
 use Rattle.relay_core.proofs.choice.is_all_done.Goals as goal
 

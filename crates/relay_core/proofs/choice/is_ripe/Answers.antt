@@ -1,7 +1,8 @@
 use Rattle.std.proofs.Common.{refl, sym, subst, arith}
 use Rattle.std.specs.Prelude.{Contains, map, IsTrue}
 use Rattle.sector_lattice.specs.Sectors.{sector_of, IsProperSubsector}
-use Rattle.relay_core.proofs.Found.{everywhere, read, differ}
+use Rattle.ibp_base.proofs.Members.{everywhere, read}
+use Rattle.ibp_base.proofs.Tests.{differ}
 use Rattle.relay_core.proofs.SectorBooks.{reached_by, a_member}
 use Rattle.relay_core.proofs.choice.is_ripe.Goals as goal
 

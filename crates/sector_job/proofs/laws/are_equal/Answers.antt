@@ -1,5 +1,4 @@
-use Rattle.family.proofs.SameFamily.{decided_by}
-use Rattle.sector_job.specs.EqualPlans.{same_family, families_decide}
+use Rattle.family.proofs.SameFamily.{same_family, families_decide, decided_by}
 use Rattle.sector_job.proofs.laws.are_equal.Goals as goal
 
 pub returns : goal.returns

@@ -8,13 +8,27 @@ use Rattle.sector_job.specs.Candidates.{Integral}
 use Rattle.sector_job.proofs.Steps.{fits_below, is_over, all_powers, few_rows, within_budget}
 use Rattle.sector_job.proofs.working.outcome_by.Goals as goal
 
-pub are_too_many-requires-clause-within : goal.are_too_many-requires-clause-within
-are_too_many-requires-clause-within c =
-    subst (λ s. s < 2 ^ c.args.family.now.n) (sym (ap (λ s. s.0) c.sector-sector.ensures)) (fits_below (family_view c.args.family.now) c.args.generators.sector.0 c.args.targets.now c.requires.fits)
+pub are_too_many-requires : goal.are_too_many-requires
+are_too_many-requires c = record {
+  is_sector = record {
+    some = c.args.family.now.limits.some_variables;
+    few = c.args.family.now.limits.few_variables;
+    within = subst (λ s. s < 2 ^ c.args.family.now.n) (sym (ap (λ s. s.0) c.sector-sector.ensures)) (fits_below (family_view c.args.family.now) c.args.generators.sector.0 c.args.targets.now c.requires.fits);
+  };
+  few_dots = c.most_dots-dots.ensures.bound;
+  low_rank = c.most_rank-rank.ensures.bound;
+}
 
-pub seeds-requires-clause-within : goal.seeds-requires-clause-within
-seeds-requires-clause-within c =
-    subst (λ s. s < 2 ^ c.args.family.now.n) (sym (ap (λ s. s.0) c.sector-sector.ensures)) (fits_below (family_view c.args.family.now) c.args.generators.sector.0 c.args.targets.now c.requires.fits)
+pub seeds-requires : goal.seeds-requires
+seeds-requires c = record {
+  is_sector = record {
+    some = c.args.family.now.limits.some_variables;
+    few = c.args.family.now.limits.few_variables;
+    within = subst (λ s. s < 2 ^ c.args.family.now.n) (sym (ap (λ s. s.0) c.sector-sector.ensures)) (fits_below (family_view c.args.family.now) c.args.generators.sector.0 c.args.targets.now c.requires.fits);
+  };
+  few_dots = c.most_dots-dots.ensures.bound;
+  low_rank = c.most_rank-rank.ensures.bound;
+}
 
 pub returns-then-are_too_many : goal.returns-then-are_too_many
 returns-then-are_too_many c =

@@ -15,7 +15,7 @@ listed c =
     c.from_vec.ensures ∙ c.in_ok-found.ensures ∙ ap (λ n. layers n c.args.sector.0 c.args.dots c.args.rank) long
 
 pub returns-clause-seeds : goal.returns-clause-seeds
-returns-clause-seeds c = subst (AreSeeds c.args.sector.0 c.args.n c.args.dots c.args.rank) (sym (listed c)) (layers_are_seeds c.args.n c.args.sector.0 c.args.dots c.args.rank c.requires.within)
+returns-clause-seeds c = subst (AreSeeds c.args.sector.0 c.args.n c.args.dots c.args.rank) (sym (listed c)) (layers_are_seeds c.args.n c.args.sector.0 c.args.dots c.args.rank c.requires.is_sector.within)
 
 pub returns-clause-number : goal.returns-clause-number
-returns-clause-number c = ap length (listed c) ∙ layers_counted c.args.n c.args.sector.0 c.args.dots c.args.rank c.requires.within
+returns-clause-number c = ap length (listed c) ∙ layers_counted c.args.n c.args.sector.0 c.args.dots c.args.rank c.requires.is_sector.within

@@ -13,7 +13,7 @@ use Rattle.sector_module.specs.Factors.{sector_factors, sector_generators}
 use Rattle.sector_module.specs.FieldsOf.{IsFieldOf}
 use Rattle.sector_module.specs.SectorBasis.{IsSectorBasis}
 use Rattle.sector_module.proofs.Syzygies.{IsSyzygy}
-use Rattle.sector_module.proofs.Zips.{length-zip}
+use Rattle.ibp_base.proofs.Zips.{length-zip}
 use Rattle.sector_module.proofs.SectorRun.{run_reduced}
 use Rattle.sector_module.proofs.FieldVectors.{fields_fit, fields_members, fields_basis}
 use Rattle.sector_module.proofs.Generating.{length-sector_generators}

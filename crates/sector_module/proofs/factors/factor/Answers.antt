@@ -8,7 +8,8 @@ use Rattle.ibp_algebra.specs.Field.{variable}
 use Rattle.ibp_algebra.proofs.Combinations.{AllKeys-weaker}
 use Rattle.family.specs.Shapes.{HasVariables}
 use Rattle.family.specs.Conditions.{in_sector}
-use Rattle.sector_module.proofs.FactorLaws.{degree_within, code_variable, code_variable_is, times_variable, variable_degree, derived_degrees, product_degrees, degrees_more, of_sector}
+use Rattle.ibp_algebra.proofs.Degrees.{degree_within}
+use Rattle.sector_module.proofs.FactorLaws.{code_variable, code_variable_is, times_variable, variable_degree, derived_degrees, product_degrees, degrees_more, of_sector}
 use Rattle.sector_module.proofs.factors.factor.Goals as goal
 
 pub product-requires : goal.product-requires

@@ -9,7 +9,7 @@ use Rattle.ibp_algebra.specs.Polynomial.{Polynomial}
 use Rattle.sparse_poly.specs.Equality.{one_polynomial-Decides}
 use Rattle.family.specs.Shapes.{IsPolynomial}
 use Rattle.family.specs.Conditions.{in_sector}
-use Rattle.sector_module.proofs.FactorLaws.{degree_within}
+use Rattle.ibp_algebra.proofs.Degrees.{degree_within}
 use Rattle.sector_module.proofs.MemberSums.{combination_step, Decides-member}
 use Rattle.sector_module.proofs.membership.is_member.Goals as goal
 

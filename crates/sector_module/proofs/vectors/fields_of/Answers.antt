@@ -1,7 +1,7 @@
 use Rattle.mono_order.specs.declared.limits.TheConstants.{RUN_DEGREE}
 use Rattle.std.proofs.Common.{◌+◌, take, sym, subst}
 use Rattle.std.specs.List.{AllZip}
-use Rattle.sector_module.proofs.Zips.{zip_more}
+use Rattle.ibp_base.proofs.Zips.{zip_more}
 use Rattle.sector_module.specs.FieldsOf.{IsFieldOf}
 use Rattle.sector_module.proofs.vectors.fields_of.Goals as goal
 

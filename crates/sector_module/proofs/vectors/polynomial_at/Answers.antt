@@ -1,7 +1,7 @@
 use Rattle.std.proofs.Common.{◌≡◌, ◌≤◌, sum, subst}
 use Rattle.ibp_algebra.specs.Polynomial.{SamePolynomial}
 use Rattle.mono_order.specs.declared.limits.TheConstants.{RUN_DEGREE}
-use Rattle.sector_module.proofs.FactorLaws.{AllKeys-same}
+use Rattle.ibp_algebra.proofs.Degrees.{AllKeys-same}
 use Rattle.sector_module.proofs.vectors.polynomial_at.Goals as goal
 
 pub returns : goal.returns

@@ -13,7 +13,7 @@ push_all-requires g c =
     let elements : c.deref.result.now ≡ c.self.inside.elements.items = cc in
     let formed : c.deref-2.result.now ≡ c.in_ok-formed.formed.items = cc in
     let pairs : c.deref-2.result.now ≡ pairs_with (length c.self.inside.elements.items + 1) (lead c.args.element) 1 c.self.inside.elements.items =
-    formed ∙ (c.in_ok-formed.ensures.formed ∙ (λ i. pairs_with (length (elements i) + 1) (c.lead_of.ensures.lead i) 1 (elements i)))
+    formed ∙ (c.in_ok-formed.ensures.formed ∙ (λ i. pairs_with (length (elements i) + 1) (c.lead_term.ensures.lead i) 1 (elements i)))
     in
     subst (λ (l : List Pair). AreNewPairs order l c.self.inside.pairs) (sym pairs)
     (AreNewPairs-formed order VARIABLES (run_state c.self.inside.elements.items c.self.inside.pairs c.self.inside.taken) c.args.element c.self.invariant)
@@ -24,9 +24,9 @@ invariant_of-result g c =
     let elements : c.deref.result.now ≡ c.self.inside.elements.items = cc in
     let formed : c.deref-2.result.now ≡ c.in_ok-formed.formed.items = cc in
     let pairs : c.deref-2.result.now ≡ pairs_with (length c.self.inside.elements.items + 1) (lead c.args.element) 1 c.self.inside.elements.items =
-    formed ∙ (c.in_ok-formed.ensures.formed ∙ (λ i. pairs_with (length (elements i) + 1) (c.lead_of.ensures.lead i) 1 (elements i)))
+    formed ∙ (c.in_ok-formed.ensures.formed ∙ (λ i. pairs_with (length (elements i) + 1) (c.lead_term.ensures.lead i) 1 (elements i)))
     in
-    let kept = c.lead_of.ensures.kept in
+    let kept = c.lead_term.ensures.kept in
     let monic : IsMonicVector order VARIABLES c.args.element = record { canonical = kept.canonical; terms = kept.terms; monic = c.requires.monic } in
     let queue : c.push_all.new.queue ≡ insert_pairs order (pairs_with (length c.self.inside.elements.items + 1) (lead c.args.element) 1 c.self.inside.elements.items) c.self.inside.pairs =
     c.in_ok-push_all.ensures ∙ ap (λ (l : List Pair). insert_pairs order l c.self.inside.pairs) pairs

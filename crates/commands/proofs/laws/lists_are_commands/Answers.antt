@@ -1,0 +1,14 @@
+use Rattle.commands.proofs.Lists.{identity_is, plain_is, basis_is, reads_lists}
+use Rattle.commands.proofs.laws.lists_are_commands.Goals as goal
+
+pub returns-clause-identity : goal.returns-clause-identity
+returns-clause-identity c = identity_is
+
+pub returns-clause-plain : goal.returns-clause-plain
+returns-clause-plain c = plain_is
+
+pub returns-clause-basis : goal.returns-clause-basis
+returns-clause-basis c = basis_is
+
+pub returns-clause-every_list : goal.returns-clause-every_list
+returns-clause-every_list c = reads_lists

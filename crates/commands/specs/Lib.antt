@@ -1,0 +1,14 @@
+pub mod Input
+pub mod Output
+pub mod Program
+pub mod Words
+pub mod WordLists
+pub mod Refusals
+pub mod Statuses
+pub mod StatusText
+pub mod Answers
+pub mod Identity
+pub mod Basis
+pub mod Plain
+pub mod Causes
+pub mod OneText

@@ -1,0 +1,32 @@
+-- The refusal that a fault of the file, of its probe, of a sector's run, or of a family without a system is.
+use Rattle.family_file.specs.declared.fault.FamilyFault.{FamilyFault}
+use Rattle.family_file.specs.declared.fault.FamilyFault.TheVariants as file
+use Rattle.ibp_relation.specs.declared.relation.IdentityFault.{IdentityFault}
+use Rattle.ibp_relation.specs.declared.relation.IdentityFault.TheVariants as probe
+use Rattle.module_basis.specs.declared.fault.BasisFault.{BasisFault}
+use Rattle.module_basis.specs.declared.fault.BasisFault.TheVariants as basis
+use Rattle.neat_system.specs.declared.fault.SystemFault.{SystemFault}
+use Rattle.neat_system.specs.declared.fault.SystemFault.TheVariants as system
+use Rattle.sector_lattice.specs.declared.sector.Sector.{Sector}
+use Rattle.commands.specs.declared.refusal.Refusal.{Refusal}
+use Rattle.commands.specs.declared.refusal.Refusal.TheVariants.{File, NotDivisible, NotTangent, PairsSpent, DegreeOver, CandidatesOver, NoMemory}
+
+abbrev pub of_family_fault : FamilyFault → Refusal
+of_family_fault (file.File fault) = File fault
+of_family_fault file.NoMemory = NoMemory
+
+abbrev pub of_identity_fault : IdentityFault → Refusal
+of_identity_fault (probe.NotDivisible i) = NotDivisible i
+of_identity_fault probe.NotTangent = NotTangent
+of_identity_fault probe.NoMemory = NoMemory
+
+abbrev pub of_basis_fault : Sector → BasisFault → Refusal
+of_basis_fault sector basis.PairsSpent = PairsSpent sector
+of_basis_fault sector basis.DegreeOver = DegreeOver sector
+of_basis_fault sector basis.NoMemory = NoMemory
+
+abbrev pub of_system_fault : SystemFault → Refusal
+of_system_fault (system.PairsSpent sector) = PairsSpent sector
+of_system_fault (system.DegreeOver sector) = DegreeOver sector
+of_system_fault (system.CandidatesOver sector) = CandidatesOver sector
+of_system_fault system.NoMemory = NoMemory

@@ -1,0 +1,31 @@
+-- The exit status and the message of each status.
+use Rattle.std.specs.Prelude.{ℕ, List, [], ◌++◌, codes, decimal}
+use Rattle.family_file.specs.Fault.{fault_number}
+use Rattle.commands.specs.declared.status.Status.{Status}
+use Rattle.commands.specs.declared.status.Status.TheVariants.{Done, Usage, ReadFault, File, NotDivisible, NotTangent, PairsSpent, DegreeOver, CandidatesOver, WriteFault, NoMemory}
+
+abbrev pub code_of : Status → ℕ
+code_of Done = 0
+code_of Usage = 2
+code_of ReadFault = 3
+code_of (File fault) = 4
+code_of (NotDivisible i) = 5
+code_of NotTangent = 5
+code_of (PairsSpent sector) = 6
+code_of (DegreeOver sector) = 7
+code_of (CandidatesOver sector) = 8
+code_of WriteFault = 9
+code_of NoMemory = 10
+
+abbrev pub message_of : Status → List ℕ
+message_of Done = []
+message_of Usage = codes "usage: neatibp identity | basis N | plain | system --workers W | drill N"
+message_of ReadFault = codes "read fault"
+message_of (File fault) = codes "file fault F" ++ decimal (fault_number fault)
+message_of (NotDivisible i) = codes "not divisible z" ++ decimal i
+message_of NotTangent = codes "not tangent"
+message_of (PairsSpent sector) = codes "pairs spent in sector " ++ decimal sector.0
+message_of (DegreeOver sector) = codes "degree over in sector " ++ decimal sector.0
+message_of (CandidatesOver sector) = codes "candidates over in sector " ++ decimal sector.0
+message_of WriteFault = codes "write fault"
+message_of NoMemory = codes "no memory"

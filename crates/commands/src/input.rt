@@ -1,0 +1,61 @@
+//! The bytes of a source.
+
+ghost use Rattle.std.specs.Prelude.{◌≡◌, ◌+◌, ◌^◌, ◌<◌, ◌≤◌, vec_len, IfOk, IsErrOf};
+ghost use Rattle.ibp_outside.specs.Causes.{Rose};
+ghost use Rattle.commands.specs.Input.{TakesFront};
+ghost use Rattle.commands.specs.declared.input.InputFault.TheVariants.{Failed as ReadFailed, NoMemory};
+
+use ibp_outside::{Failed, Source};
+use std::alloc::{AllocError, Global};
+
+/// Why the bytes of a source could not be read.
+#[derive(Clone, Copy, Debug, PartialEq, Eq)]
+pub enum InputFault {
+    /// A call of the source failed, and was counted there.
+    Failed,
+    /// Memory ran out before the source's end.
+    NoMemory,
+}
+
+impl From<Failed> for InputFault {
+    ghost from_gives = { λ _ e. e ≡ ReadFailed };
+
+    fn from(_e: Failed) -> InputFault {
+        InputFault::Failed
+    }
+}
+
+impl From<AllocError> for InputFault {
+    ghost from_gives = { λ _ e. e ≡ NoMemory };
+
+    fn from(_e: AllocError) -> InputFault {
+        InputFault::NoMemory
+    }
+}
+
+/// The bytes of a source to its end, or one more than the limit where there are more.
+pub fn read_input<S: Source>(
+    alloc: Global,
+    source: &mut S,
+    limit: usize,
+) -> Result<Vec<u8>, InputFault>
+    requires { limit < 2 ^ 63 }
+    ensures bytes { IfOk result (λ v. TakesFront (limit + 1) (S.left source.old)
+        (S.left source.new) v.items) }
+    ensures few { IfOk result (λ v. vec_len v ≤ limit + 1) }
+    ensures failed { IsErrOf result InputFault.Failed
+        → Rose (S.faults source.old) (S.faults source.new) }
+    ensures later { S.faults source.old ≤ S.faults source.new }
+{
+    let mut bytes = Vec::new(alloc);
+    let mut buf = [0u8; 4096];
+    while bytes.len() <= limit {
+        let room = buf.len().min(limit + 1 - bytes.len());
+        let count = source.read(&mut buf[..room])?;
+        if count == 0 {
+            break;
+        }
+        bytes.extend_from_slice(&buf[..count])?;
+    }
+    Ok(bytes)
+}

@@ -1,0 +1,19 @@
+//! The words of the command line, the commands, and the top call that does what the words ask for, over a
+//! source and a sink of bytes.
+#![tactic(auto)]
+
+mod answer;
+mod basis;
+mod identity;
+mod input;
+mod laws;
+mod output;
+mod plain;
+mod refusal;
+mod run;
+mod status;
+mod words;
+
+pub use laws::{lists_are_commands, one_text};
+pub use run::run_calm;
+pub use status::{Status, status_text};

@@ -1,0 +1,87 @@
+//! The top call.
+
+ghost use Rattle.std.specs.Prelude.{◌≡◌, ◌≢◌, ◌≤◌, ◌+◌, ◌⊎◌, map, string_bytes, None, Some, IfSome, IsOkAnd};
+ghost use Rattle.std.specs.Io.KnownBytes.{Keeps};
+ghost use Rattle.ibp_outside.specs.Causes.{Rose};
+ghost use Rattle.family_file.specs.Family.{family_of};
+ghost use Rattle.commands.specs.Words.{command_of};
+ghost use Rattle.commands.specs.Causes.{need_of, Accepts, Tells, IsRefused, IsAnswered, IsReached, IsReadThrough};
+ghost use Rattle.commands.specs.declared.words.Command.{Command};
+ghost use Rattle.commands.specs.declared.status.Status.{Status};
+
+use crate::answer::text_of;
+use crate::input::read_input;
+use crate::output::write_text;
+use crate::status::Status;
+use crate::words::command_of;
+use family_file::MAX_FILE;
+use ibp_outside::{Failed, Sink, Source};
+use std::alloc::Global;
+
+/// Does what the words ask for with the bytes of the source, and writes the text to the sink. The words
+/// have no name of a program in front.
+pub fn run_calm<S: Source, K: Sink>(
+    alloc: Global,
+    words: &[String],
+    source: &mut S,
+    sink: &mut K,
+) -> Status
+    // Which words are commands. With others nothing is read.
+    ensures usage { result ≡ Status.Usage → command_of (map string_bytes words.now) ≡ None }
+    ensures no_command { command_of (map string_bytes words.now) ≡ None
+        → (result ≡ Status.Usage) ⊎ (result ≡ Status.NoMemory) }
+    ensures nothing_read { result ≡ Status.Usage → Keeps (S.left source.old) (S.left source.new) }
+
+    // What the status tells of the file, and what the sink took.
+    ensures told { (command : Command) → command_of (map string_bytes words.now) ≡ Some command →
+        IfSome (S.left source.old) (λ input. Tells command (family_of (need_of command) input)
+        (K.taken sink.old) (K.taken sink.new) result) }
+
+    // Where the file has a fault, or the command refuses its family, that is the answer.
+    ensures refused { (command : Command) (status : Status)
+        → command_of (map string_bytes words.now) ≡ Some command →
+        IfSome (S.left source.old) (λ input.
+        IsRefused command (family_of (need_of command) input) status → IsAnswered status result) }
+
+    // Only a run that is done, or that the sink stopped, writes.
+    ensures nothing_written { result ≢ Status.Done → result ≢ Status.WriteFault →
+        Keeps (K.taken sink.old) (K.taken sink.new) }
+
+    // Every other status comes after the source was read to its end, or past the limit.
+    ensures read_through { IsReached result
+        → IsReadThrough (MAX_FILE + 1) (S.left source.old) (S.left source.new) }
+
+    // A fault comes only where the object's own count rose.
+    ensures read_fault { result ≡ Status.ReadFault
+        → Rose (S.faults source.old) (S.faults source.new) }
+    ensures write_fault { result ≡ Status.WriteFault
+        → Rose (K.faults sink.old) (K.faults sink.new) }
+    ensures read_later { S.faults source.old ≤ S.faults source.new }
+    ensures write_later { K.faults sink.old ≤ K.faults sink.new }
+
+    // A command that can work on the file is done, unless memory runs out or a fault is counted.
+    ensures complete { (command : Command)
+        → command_of (map string_bytes words.now) ≡ Some command →
+        IfSome (S.left source.old) (λ input.
+        IsOkAnd (family_of (need_of command) input) (Accepts command)
+        → ¬ Rose (S.faults source.old) (S.faults source.new)
+        → ¬ Rose (K.faults sink.old) (K.faults sink.new)
+        → (result ≡ Status.Done) ⊎ (result ≡ Status.NoMemory)) }
+{
+    let command = match command_of(alloc, words) {
+        Ok(command) => command,
+        Err(fault) => return Status::from(fault),
+    };
+    let bytes = match read_input(alloc, source, MAX_FILE) {
+        Ok(bytes) => bytes,
+        Err(fault) => return Status::from(fault),
+    };
+    let text = match text_of(alloc, command, &bytes) {
+        Ok(text) => text,
+        Err(refusal) => return Status::from(refusal),
+    };
+    match write_text(sink, &text) {
+        Ok(()) => Status::Done,
+        Err(Failed) => Status::WriteFault,
+    }
+}

@@ -1,8 +1,0 @@
-use Rattle.std.proofs.Common.{◌∙◌, ap, sym}
-use Rattle.neatibp.specs.Words.{is_number}
-use Rattle.neatibp.proofs.Numbers.{number_given}
-use Rattle.neatibp.proofs.words.number_in.Goals as goal
-
-pub returns-then-is_number : goal.returns-then-is_number
-returns-then-is_number c =
-    c.ok.ensures.value ∙ number_given c.args.word.now c.parse.result (ap is_number (sym c.as_bytes.ensures.value) ∙ sym c.is_number.ensures ∙ c.if-is_number.true) c.parse.ensures.value.0

@@ -1,0 +1,77 @@
+use ibp_field::Residue;
+use mono_order::{Monomial, VARIABLES};
+use sparse_poly::{Poly, PolyFault, copy_polynomials};
+use std::alloc::Global;
+use std::process::Abort;
+use std::test::Fail;
+
+// c1 * z1 + c2 * z2 + c
+fn linear(rt: &impl Abort, alloc: Global, first: i64, second: i64, constant: i64) -> Poly {
+    let terms = [
+        (Monomial::one(), Residue::from_i64(constant)),
+        (Monomial::variable(1), Residue::from_i64(first)),
+        (Monomial::variable(2), Residue::from_i64(second)),
+    ];
+    Poly::from_terms(alloc, &terms).ok().expect(rt, "memory")
+}
+
+// A power of z1, plus a constant.
+fn power(rt: &impl Abort, alloc: Global, exponent: u16, constant: i64) -> Poly {
+    let mut exponents = [0; VARIABLES];
+    exponents[0] = exponent;
+    let monomial = Monomial::from_exponents(exponents).expect(rt, "a degree in range");
+    let terms = [
+        (monomial, Residue::one()),
+        (Monomial::one(), Residue::from_i64(constant)),
+    ];
+    Poly::from_terms(alloc, &terms).ok().expect(rt, "memory")
+}
+
+#[test]
+fn binomials_are_added_and_multiplied(rt: HostRuntime) -> Result<(), Fail> {
+    let alloc = rt.alloc();
+    let one = Residue::one();
+    let p = linear(&rt, alloc, 1, 0, 1);
+    let q = linear(&rt, alloc, 1, 0, -1);
+    let terms = [(Monomial::variable(1), one), (Monomial::one(), one)];
+    assert!(rt; p.terms() == terms.as_slice());
+    assert!(rt; p.add(alloc, &q)? == linear(&rt, alloc, 2, 0, 0));
+    assert!(rt; p.mul(alloc, &q)? == power(&rt, alloc, 2, -1));
+    assert!(rt; p.scale(alloc, Residue::of(3))? == linear(&rt, alloc, 3, 0, 3));
+    Ok(())
+}
+
+#[test]
+fn copies_have_the_same_terms(rt: HostRuntime) -> Result<(), Fail> {
+    let alloc = rt.alloc();
+    let binomials = [linear(&rt, alloc, 1, 0, 1), linear(&rt, alloc, 1, 0, -1)];
+    let copies = copy_polynomials(alloc, &binomials)?;
+    assert!(rt; copies.as_slice() == binomials.as_slice());
+    assert!(rt; binomials[0].copy(alloc)? == binomials[0]);
+    Ok(())
+}
+
+#[test]
+fn the_degree_of_a_product_has_a_limit(rt: HostRuntime) -> Result<(), Fail> {
+    let alloc = rt.alloc();
+    let most = power(&rt, alloc, 300, 0);
+    assert_eq!(rt; most.degree(), 300);
+    let over = most.mul(alloc, &linear(&rt, alloc, 1, 0, 0));
+    assert!(rt; matches!(over, Err(PolyFault::DegreeOver)));
+    assert!(rt; most.mul(alloc, &Poly::zero(alloc))?.is_zero());
+    Ok(())
+}
+
+#[test]
+fn variables_are_derived_struck_and_exchanged(rt: HostRuntime) -> Result<(), Fail> {
+    let alloc = rt.alloc();
+    let square = power(&rt, alloc, 2, 0);
+    assert!(rt; square.divisible_by(1));
+    assert!(rt; square.derivative(alloc, 1)? == linear(&rt, alloc, 2, 0, 0));
+    let p = linear(&rt, alloc, 1, 0, 1);
+    assert!(rt; !p.divisible_by(1));
+    assert!(rt; p.set_zero(alloc, 1)? == linear(&rt, alloc, 0, 0, 1));
+    let exchanged = linear(&rt, alloc, 1, 2, 0).permute(alloc, &[2, 1, 3, 4, 5, 6, 7, 8, 9])?;
+    assert!(rt; exchanged == linear(&rt, alloc, 2, 1, 0));
+    Ok(())
+}

@@ -1,0 +1,76 @@
+// The identities of the basis of a sector at a seed.
+ghost use Rattle.std.specs.List.{All};
+ghost use Rattle.mono_order.specs.declared.limits.TheConstants.{RUN_DEGREE};
+ghost use Rattle.sector_lattice.specs.Sectors.{sector_of};
+ghost use Rattle.family.specs.Conditions.{IsInSectorModule};
+ghost use Rattle.family.specs.Shapes.{IsField, ArePowers};
+
+use crate::fixtures::{BUBBLE, integral};
+use family::{Family, StrippedField};
+use family_file::{Need, read_family};
+use ibp_field::Residue;
+use ibp_relation::candidate;
+use sector_lattice::Integral;
+use sector_module::sector_basis;
+use sparse_rows::Row;
+use std::alloc::Global;
+use std::process::Abort;
+use std::test::Fail;
+
+const PROBE: &str = "
+[probe]
+field = [\"0\", \"0\"]
+factor = \"0\"
+seed = [1, 2]
+";
+
+fn bubble_with_a_seed(rt: &impl Abort, alloc: Global) -> Family {
+    let file = format!(in alloc; "{BUBBLE}{PROBE}")
+        .ok()
+        .expect(rt, "memory");
+    let family = read_family(alloc, file.as_bytes(), Need::Probe);
+    family.ok().expect(rt, "a family")
+}
+
+fn candidates_of(
+    alloc: Global,
+    family: &Family,
+    fields: &[StrippedField],
+    seed: &Integral,
+) -> Result<Vec<Row>, Fail>
+    requires shape { All (λ field. IsField family.now.n RUN_DEGREE field.c field.b) fields.now }
+    requires members { All (IsInSectorModule family.now.baikov (sector_of seed.now)) fields.now }
+    requires powers { ArePowers family.now.n seed.now }
+{
+    let mut rows = Vec::new(alloc);
+    for field in fields {
+        rows.push(candidate(alloc, family, field, seed)?)?;
+    }
+    Ok(rows)
+}
+
+// The identities of the basis of the sector of the probe's seed, at this seed.
+fn candidates_at_the_probe(alloc: Global, family: &Family) -> Result<Vec<Row>, Fail> {
+    let probe = family.probe.as_ref().ok_or("no probe")?;
+    let sector = probe.seed.sector();
+    if u32::from(sector.0) >= 1 << family.n {
+        return Err("no sector")?;
+    }
+    let basis = sector_basis(alloc, family, sector)?;
+    candidates_of(alloc, family, basis.fields(), &probe.seed)
+}
+
+#[test]
+fn the_candidates_of_a_bubble_at_a_seed(rt: HostRuntime) -> Result<(), Fail> {
+    let bubble = bubble_with_a_seed(&rt, rt.alloc());
+    let rows = candidates_at_the_probe(rt.alloc(), &bubble)?;
+    let dotted = integral(&rt, &[1, 2]);
+    let plain = integral(&rt, &[1, 1]);
+    assert_eq!(rt; rows.len(), 2);
+    for (row, [first, second]) in rows.iter().zip([[1, 14], [2147483645, 2147483619]]) {
+        assert_eq!(rt; row.terms().len(), 2);
+        assert!(rt; row.coefficient(&dotted) == Residue::from_i64(first));
+        assert!(rt; row.coefficient(&plain) == Residue::from_i64(second));
+    }
+    Ok(())
+}

@@ -1,0 +1,23 @@
+//! Worked calls on whole families: what public calls of several crates answer together. It has tests alone.
+#![tactic(auto)]
+
+#[cfg(test)]
+mod bases;
+#[cfg(test)]
+mod candidates;
+#[cfg(test)]
+mod fixtures;
+#[cfg(test)]
+mod members;
+#[cfg(test)]
+mod polynomials;
+#[cfg(test)]
+mod relays;
+#[cfg(test)]
+mod scripts;
+#[cfg(test)]
+mod shared;
+#[cfg(test)]
+mod statuses;
+#[cfg(test)]
+mod systems;

@@ -1,0 +1,34 @@
+use commands::{Status, status_text};
+use family_file::FileFault;
+use sector_lattice::Sector;
+
+const USAGE: &str = "usage: neatibp identity | basis N | plain | system --workers W | drill N";
+
+// Each status with its exit status and its message.
+const STATUSES: [(Status, u8, &str); 11] = [
+    (Status::Done, 0, ""),
+    (Status::Usage, 2, USAGE),
+    (Status::ReadFault, 3, "read fault"),
+    (Status::File(FileFault::Targets), 4, "file fault F10"),
+    (Status::NotDivisible(1), 5, "not divisible z1"),
+    (Status::NotTangent, 5, "not tangent"),
+    (Status::PairsSpent(Sector(2)), 6, "pairs spent in sector 2"),
+    (Status::DegreeOver(Sector(3)), 7, "degree over in sector 3"),
+    (
+        Status::CandidatesOver(Sector(511)),
+        8,
+        "candidates over in sector 511",
+    ),
+    (Status::WriteFault, 9, "write fault"),
+    (Status::NoMemory, 10, "no memory"),
+];
+
+#[test]
+fn each_status_has_its_message_and_code(rt: HostRuntime) {
+    let mut buffer = [0; 128];
+    for (status, code, text) in STATUSES {
+        let len = status_text(&status, &mut buffer);
+        assert_eq!(rt; &buffer[..len], text.as_bytes());
+        assert_eq!(rt; status.code(), code);
+    }
+}
