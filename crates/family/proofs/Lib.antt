@@ -1,2 +1,3 @@
+pub mod CapsWithin
 pub mod Places
 pub mod SameFamily

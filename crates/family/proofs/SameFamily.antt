@@ -16,6 +16,7 @@ use Rattle.family.specs.declared.parts.Bounds.{Bounds}
 use Rattle.family.specs.declared.parts.Budget.{Budget}
 use Rattle.family.specs.declared.parts.Field.{Field}
 use Rattle.family.specs.declared.parts.Probe.{Probe}
+use Rattle.family.specs.declared.parts.SectorCaps.{SectorCaps}
 use Rattle.family.specs.FamilyView.{family_view}
 
 abbrev same_sector : Sector → Sector → Bool
@@ -23,6 +24,9 @@ same_sector a b = nat_eq a.0 b.0
 
 abbrev same_bounds : Bounds → Bounds → Bool
 same_bounds a b = nat_eq a.dots_cap b.dots_cap && (nat_eq a.rank_cap b.rank_cap && (nat_eq a.extra_dots b.extra_dots && nat_eq a.extra_rank b.extra_rank))
+
+abbrev same_caps : SectorCaps → SectorCaps → Bool
+same_caps a b = same_sector a.sector b.sector && (nat_eq a.dots b.dots && nat_eq a.rank b.rank)
 
 abbrev same_budget : Budget → Budget → Bool
 same_budget a b = nat_eq a.pairs b.pairs && nat_eq a.candidates b.candidates
@@ -35,7 +39,7 @@ abbrev pub same_family : Family → Family → Bool
 same_family f g =
     pointwise nat_eq f.name g.name && (nat_eq f.n g.n && (nat_eq f.gamma g.gamma && (one_polynomial f.baikov g.baikov
     && (pointwise (eq_by_cmp integral_cmp) f.targets g.targets && (pointwise same_sector f.zero g.zero
-    && (same_bounds f.bounds g.bounds && (same_budget f.budget g.budget && option_eq same_probe f.probe g.probe)))))))
+    && (same_bounds f.bounds g.bounds && (pointwise same_caps f.caps g.caps && (same_budget f.budget g.budget && option_eq same_probe f.probe g.probe))))))))
 
 pub decided_by : (r b : Bool) (P : Type 0) → r ≡ b → Decides b P → Decides r P
 decided_by r b P same h = (λ yes. h.0 (sym same ∙ yes), λ p. same ∙ h.1 p)
@@ -48,6 +52,12 @@ bounds_decide a b =
     Decides-like _ (λ e i. record { dots_cap = e.0 i; rank_cap = e.1.0 i; extra_dots = e.1.1.0 i; extra_rank = e.1.1.1 i })
     (λ e. ((λ i. (e i).dots_cap), ((λ i. (e i).rank_cap), ((λ i. (e i).extra_dots), (λ i. (e i).extra_rank)))))
     (Decides-and _ _ (unsigned_Decides a.dots_cap b.dots_cap) (Decides-and _ _ (unsigned_Decides a.rank_cap b.rank_cap) (Decides-and _ _ (unsigned_Decides a.extra_dots b.extra_dots) (unsigned_Decides a.extra_rank b.extra_rank))))
+
+caps_decide : (a b : SectorCaps) → Decides (same_caps a b) (a ≡ b)
+caps_decide a b =
+    Decides-like _ (λ e i. record { sector = e.0 i; dots = e.1.0 i; rank = e.1.1 i })
+    (λ e. ((λ i. (e i).sector), ((λ i. (e i).dots), (λ i. (e i).rank))))
+    (Decides-and _ _ (sectors_decide a.sector b.sector) (Decides-and _ _ (unsigned_Decides a.dots b.dots) (unsigned_Decides a.rank b.rank)))
 
 budget_decides : (a b : Budget) → Decides (same_budget a b) (a ≡ b)
 budget_decides a b =
@@ -76,8 +86,8 @@ options_decide test each (Some x) (Some y) = (λ e. ap Some ((each x y).0 e), λ
 pub families_decide : (f g : Family) → Decides (same_family f g) (family_view f ≡ family_view g)
 families_decide f g =
     Decides-like _
-    (λ e i. record { name = e.0 i; n = e.1.0 i; gamma = e.1.1.0 i; baikov = e.1.1.1.0 i; targets = e.1.1.1.1.0 i; zero = e.1.1.1.1.1.0 i; bounds = e.1.1.1.1.1.1.0 i; budget = e.1.1.1.1.1.1.1.0 i; probe = e.1.1.1.1.1.1.1.1 i })
-    (λ e. ((λ i. (e i).name), ((λ i. (e i).n), ((λ i. (e i).gamma), ((λ i. (e i).baikov), ((λ i. (e i).targets), ((λ i. (e i).zero), ((λ i. (e i).bounds), ((λ i. (e i).budget), (λ i. (e i).probe))))))))))
+    (λ e i. record { name = e.0 i; n = e.1.0 i; gamma = e.1.1.0 i; baikov = e.1.1.1.0 i; targets = e.1.1.1.1.0 i; zero = e.1.1.1.1.1.0 i; bounds = e.1.1.1.1.1.1.0 i; caps = e.1.1.1.1.1.1.1.0 i; budget = e.1.1.1.1.1.1.1.1.0 i; probe = e.1.1.1.1.1.1.1.1.1 i })
+    (λ e. ((λ i. (e i).name), ((λ i. (e i).n), ((λ i. (e i).gamma), ((λ i. (e i).baikov), ((λ i. (e i).targets), ((λ i. (e i).zero), ((λ i. (e i).bounds), ((λ i. (e i).caps), ((λ i. (e i).budget), (λ i. (e i).probe)))))))))))
     (Decides-and _ _ (pointwise_decides unsigned_Decides f.name g.name)
     (Decides-and _ _ (unsigned_Decides f.n g.n)
     (Decides-and _ _ (unsigned_Decides f.gamma g.gamma)
@@ -85,4 +95,5 @@ families_decide f g =
     (Decides-and _ _ (pointwise_decides integrals_decide f.targets g.targets)
     (Decides-and _ _ (pointwise_decides sectors_decide f.zero g.zero)
     (Decides-and _ _ (bounds_decide f.bounds g.bounds)
-    (Decides-and _ _ (budget_decides f.budget g.budget) (options_decide same_probe probes_decide f.probe g.probe)))))))))
+    (Decides-and _ _ (pointwise_decides caps_decide f.caps g.caps)
+    (Decides-and _ _ (budget_decides f.budget g.budget) (options_decide same_probe probes_decide f.probe g.probe))))))))))

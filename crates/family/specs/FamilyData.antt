@@ -5,6 +5,7 @@ use Rattle.sector_lattice.specs.declared.sector.Sector.{Sector}
 use Rattle.family.specs.declared.parts.Bounds.{Bounds}
 use Rattle.family.specs.declared.parts.Budget.{Budget}
 use Rattle.family.specs.declared.parts.Probe.{Probe}
+use Rattle.family.specs.declared.parts.SectorCaps.{SectorCaps}
 
 pub record FamilyData : Type 0 where
   pub name : List ℕ
@@ -14,5 +15,6 @@ pub record FamilyData : Type 0 where
   pub targets : List (List ℤ)
   pub zero : List Sector
   pub bounds : Bounds
+  pub caps : List SectorCaps
   pub budget : Budget
   pub probe : Option Probe

@@ -1,5 +1,6 @@
 pub mod Name
 pub mod Shapes
+pub mod Caps
 pub mod Limits
 pub mod LimitsProp
 pub mod Conditions

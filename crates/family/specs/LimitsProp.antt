@@ -13,6 +13,7 @@ use Rattle.sector_lattice.specs.declared.sector.Sector.{Sector}
 use Rattle.family.specs.declared.parts.Bounds.{Bounds}
 use Rattle.family.specs.declared.parts.Budget.{Budget}
 use Rattle.family.specs.declared.parts.Probe.{Probe}
+use Rattle.family.specs.declared.parts.SectorCaps.{SectorCaps}
 use Rattle.family.specs.Shapes.{HasVariables, IsPolynomial}
 use Rattle.family.specs.Limits.{FamilyLimits}
 
@@ -37,5 +38,5 @@ polynomial-prop n degree p =
     let within = AllKeys-prop (λ m. sum m ≤ degree) (λ m. le_prop) p in
     hlevel (props, canonical, variables, within)
 
-pub limits-prop : (n : ℕ) (baikov : Polynomial) (targets : List (List ℤ)) (zero : List Sector) (bounds : Bounds) (budget : Budget) (probe : Option Probe) → IsProp (FamilyLimits n baikov targets zero bounds budget probe)
-limits-prop n baikov targets zero bounds budget probe = hlevel (props, polynomial-prop, IsDistinct-prop)
+pub limits-prop : (n : ℕ) (baikov : Polynomial) (targets : List (List ℤ)) (zero : List Sector) (bounds : Bounds) (caps : List SectorCaps) (budget : Budget) (probe : Option Probe) → IsProp (FamilyLimits n baikov targets zero bounds caps budget probe)
+limits-prop n baikov targets zero bounds caps budget probe = hlevel (props, polynomial-prop, IsDistinct-prop)

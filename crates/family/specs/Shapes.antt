@@ -13,7 +13,7 @@ use Rattle.mono_order.specs.declared.limits.TheConstants.{VARIABLES}
 use Rattle.family.specs.declared.limits.TheConstants.{LEAST_POWER, GREATEST_POWER}
 
 pub record HasVariables (n : ℕ) (m : List ℕ) : Type 0 where
-  pub nine : length m ≡ VARIABLES
+  pub each_variable : length m ≡ VARIABLES
   pub none_beyond : (i : ℕ) → n ≤ i → slice_index_or m i 0 ≡ 0
 
 pub record IsPolynomial (n degree : ℕ) (p : Polynomial) : Type 0 where

@@ -41,6 +41,7 @@ impl Family {
         let baikov = self.baikov.copy(alloc)?;
         let targets = self.targets.as_slice().to_vec(alloc)?;
         let zero = self.zero.as_slice().to_vec(alloc)?;
+        let caps = self.caps.as_slice().to_vec(alloc)?;
         let probe = copy_probe(alloc, &self.probe)?;
         Ok(Family {
             name,
@@ -50,6 +51,7 @@ impl Family {
             targets: List::from_vec(targets),
             zero: List::from_vec(zero),
             bounds: self.bounds,
+            caps: List::from_vec(caps),
             budget: self.budget,
             probe,
         })

@@ -4,7 +4,7 @@ ghost use Rattle.family.specs.Limits.{FamilyLimits};
 ghost use Rattle.family.specs.LimitsProp.{limits-prop};
 
 use crate::name::Name;
-use crate::parts::{Bounds, Budget, Probe};
+use crate::parts::{Bounds, Budget, Probe, SectorCaps};
 use ibp_base::List;
 use ibp_field::Residue;
 use sector_lattice::{Integral, Sector};
@@ -29,9 +29,11 @@ pub struct Family {
     pub zero: List<Sector>,
     /// Which seeds are taken.
     pub bounds: Bounds,
+    /// The sectors with caps of their own, each once, in the order of the file.
+    pub caps: List<SectorCaps>,
     /// How much work a sector may take.
     pub budget: Budget,
     /// A field and a seed, where the file has them.
     pub probe: Option<Probe>,
-    pub ghost limits: { FamilyLimits n baikov targets zero bounds budget probe } by { limits-prop n baikov targets zero bounds budget probe },
+    pub ghost limits: { FamilyLimits n baikov targets zero bounds caps budget probe } by { limits-prop n baikov targets zero bounds caps budget probe },
 }

@@ -15,6 +15,9 @@ pub const LEAST_POWER: i16 = -30;
 /// The greatest power of a target or a seed.
 pub const GREATEST_POWER: i16 = 30;
 
+/// The greatest number of sectors that have caps of their own.
+pub const SECTOR_CAPS_LIMIT: usize = 4096;
+
 /// The greatest cap of dots or of rank.
 pub const CAP_LIMIT: u32 = 20;
 

@@ -1,7 +1,7 @@
 //! The parts of a family.
 
 use ibp_base::List;
-use sector_lattice::Integral;
+use sector_lattice::{Integral, Sector};
 use sparse_poly::Poly;
 
 /// A field `(a_1 .. a_n ; b)`: the sum of `a_i` times the derivative by `z_i`, beside the factor b of
@@ -24,8 +24,8 @@ pub struct StrippedField {
     pub b: Poly,
 }
 
-/// Which seeds of a sector are taken: at most the cap of dots and of rank, and at most so many more than
-/// the targets have. The dots of an integral are what its positive powers have above 1, added up; its rank
+/// Which seeds of a sector are taken: at most the cap of dots and of rank, where the sector has no caps of
+/// its own, and at most so many more than the targets have. The dots of an integral are what its positive powers have above 1, added up; its rank
 /// is the sum of its other powers without the sign.
 #[derive(Clone, Copy, Debug, PartialEq, Eq)]
 pub struct Bounds {
@@ -37,6 +37,17 @@ pub struct Bounds {
     pub extra_dots: u32,
     /// How much more rank it may have than they have at most: 0 to 5.
     pub extra_rank: u32,
+}
+
+/// The caps of one sector, in place of those of [`Bounds`].
+#[derive(Clone, Copy, Debug, PartialEq, Eq)]
+pub struct SectorCaps {
+    /// The sector whose seeds have these caps.
+    pub sector: Sector,
+    /// No seed of it has more dots: 0 to 20.
+    pub dots: u32,
+    /// No seed of it has a greater rank: 0 to 20.
+    pub rank: u32,
 }
 
 /// How much work may be spent on a sector.

@@ -13,6 +13,10 @@ use Rattle.poly_text.specs.declared.fault.TextFault.{TextFault}
 use Rattle.poly_text.specs.PolyText.{NumbersValue, value_in}
 use Rattle.poly_text.specs.Answer.{text_answer}
 use Rattle.sparse_poly.specs.declared.limits.TheConstants.{DEGREE_LIMIT, TERM_LIMIT}
+use Rattle.family.specs.declared.limits.TheConstants.{CAP_LIMIT, EXTRA_LIMIT, PAIR_LIMIT, CANDIDATE_LIMIT}
+use Rattle.family_file.specs.declared.limits.TheConstants.{MAX_FILE, LOOP_LIMIT}
+use Rattle.family_file.specs.declared.version.Version.{Version}
+use Rattle.family_file.specs.declared.version.Version.TheVariants.{One, Two}
 use Rattle.family_file.specs.declared.fault.FileFault.{FileFault}
 use Rattle.family_file.specs.declared.fault.FileFault.TheVariants as faults
 use Rattle.family_file.specs.declared.need.Need.{Need}
@@ -20,10 +24,13 @@ use Rattle.family_file.specs.declared.need.Need.TheVariants as needs
 use Rattle.family.specs.declared.parts.Bounds.{Bounds}
 use Rattle.family.specs.declared.parts.Budget.{Budget}
 use Rattle.family.specs.declared.parts.Probe.{Probe}
+use Rattle.family.specs.declared.parts.SectorCaps.{SectorCaps}
 use Rattle.family_file.specs.Need.{needs_probe}
 use Rattle.family_file.specs.Reading.{collect}
 use Rattle.family_file.specs.Table.{PolynomialData, polynomial_text, term_list, polynomial_of}
 use Rattle.family_file.specs.Numbers.{natural}
+use Rattle.family_file.specs.Version.{version_of, leg_limit, variable_limit}
+use Rattle.family_file.specs.Caps.{caps_of}
 use Rattle.family_file.specs.Document.{HeaderKeys, BodyKeys, BoundsKeys, BudgetKeys, ProbeKeys, DocumentKeys, document_keys}
 use Rattle.family.specs.Shapes.{HasVariables}
 use Rattle.family.specs.Limits.{BoundsWithin, BudgetWithin, IsProbe, FamilyLimits}
@@ -31,13 +38,14 @@ use Rattle.family_file.specs.Arrays.{integer_in, list_in, powers_from, targets_o
 use Rattle.family_file.specs.Polynomials.{or_fault, text_in, residue_in, numbers_of, exponent_in, term_from, term_in, terms_of, polynomial_in, polynomial_value, field_of}
 use Rattle.family.specs.Within.{DataWithin}
 use Rattle.family_file.specs.Accepted.{MeetsNeed}
-use Rattle.family_file.specs.Family.{ShapeData, BodyData, table_of_bytes, header_of, shape_of, unless_zero, bounds_of, budget_of, probe_of, needed_probe, sector_check, baikov_of, body_of, family_of_keys, family_of}
+use Rattle.family_file.specs.Family.{ShapeData, BodyData, table_of_bytes, name_in, shape_of, unless_zero, bounds_of, budget_of, probe_of, needed_probe, sector_check, baikov_of, body_of, family_of_keys, family_of}
 use Rattle.family.specs.FamilyData.{FamilyData}
 use Rattle.family_file.proofs.Binds.{bind_ok, if_ok, unless_ok, where_ok, natural_within, collect_each, collect_length}
 use Rattle.ibp_base.proofs.Tests.{same_ok, both_true}
 use Rattle.ibp_base.proofs.Members.{All-each}
 use Rattle.family_file.proofs.TargetLimits.{powers_are, targets_are, AreTargets}
 use Rattle.family_file.proofs.SectorLimits.{zero_sectors_are, AreZeroSectors}
+use Rattle.family_file.proofs.CapsLimits.{caps_are, AreCaps}
 use Rattle.family_file.proofs.PolynomialLimits.{IsRead, Small, zeros_at, read_normal, normal_form_length}
 use Rattle.family_file.proofs.TextLimits.{text_read}
 use Rattle.family_file.proofs.Filling.{padded_sum}
@@ -76,7 +84,7 @@ term_is fault n most (first ∷ others) term e =
     let small : sum exponents.0 ≤ DEGREE_LIMIT = grind (arith, nat_tests, sides.1) in
     subst (IsReadTerm n) made.1 (record {
       variables = record {
-        nine = padded_length n exponents.0 many most;
+        each_variable = padded_length n exponents.0 many most;
         none_beyond = λ i le. padded_at (VARIABLES - n) exponents.0 i (omega (arith, many, le));
       };
       small = omega (arith, padded_sum (VARIABLES - n) exponents.0, small);
@@ -132,42 +140,46 @@ field_read n most fault numbers ds a e =
 
 -- ---- the parts
 
+at_most : (version : Version) → variable_limit version ≤ VARIABLES
+at_most One = omega arith
+at_most Two = omega arith
+
 pub record IsShape (shape : ShapeData) : Type 0 where
   pub some : 1 ≤ shape.variables
   pub few : shape.variables ≤ VARIABLES
 
-shape_is : (header : HeaderKeys) (shape : ShapeData) → shape_of header ≡ Ok shape → IsShape shape
+shape_is : (version : Version) (header : HeaderKeys) (shape : ShapeData) → shape_of version header ≡ Ok shape → IsShape shape
 unfolding shape_of
-shape_is header shape e =
-    let loops = bind_ok (natural faults.Shape 1 3 header.loops) _ shape e in
-    let legs = bind_ok (natural faults.Shape 0 8 header.legs) _ shape loops.1.1 in
-    let variables = bind_ok (natural faults.Shape 1 VARIABLES header.variables) _ shape legs.1.1 in
-    let sides = natural_within faults.Shape 1 VARIABLES header.variables variables.0 variables.1.0 in
+shape_is version header shape e =
+    let loops = bind_ok (natural faults.Shape 1 LOOP_LIMIT header.loops) _ shape e in
+    let legs = bind_ok (natural faults.Shape 0 (leg_limit version) header.legs) _ shape loops.1.1 in
+    let variables = bind_ok (natural faults.Shape 1 (variable_limit version) header.variables) _ shape legs.1.1 in
+    let sides = natural_within faults.Shape 1 (variable_limit version) header.variables variables.0 variables.1.0 in
     let made = if_ok (variables.0 == loops.0 * (loops.0 + 1) / 2 + loops.0 * legs.0) _ shape faults.Shape variables.1.1 in
-    subst IsShape made.1 (record { some = sides.0; few = sides.1 })
+    subst IsShape made.1 (record { some = sides.0; few = omega (arith, sides.1, at_most version) })
 
 bounds_are : (keys : BoundsKeys) (bounds : Bounds) → bounds_of keys ≡ Ok bounds → BoundsWithin bounds
 unfolding bounds_of
 bounds_are keys bounds e =
-    let dots = bind_ok (natural faults.Limits 0 20 keys.dots_cap) _ bounds e in
-    let rank = bind_ok (natural faults.Limits 0 20 keys.rank_cap) _ bounds dots.1.1 in
-    let more_dots = bind_ok (natural faults.Limits 0 5 keys.extra_dots) _ bounds rank.1.1 in
-    let more_rank = bind_ok (natural faults.Limits 0 5 keys.extra_rank) _ bounds more_dots.1.1 in
+    let dots = bind_ok (natural faults.Limits 0 CAP_LIMIT keys.dots_cap) _ bounds e in
+    let rank = bind_ok (natural faults.Limits 0 CAP_LIMIT keys.rank_cap) _ bounds dots.1.1 in
+    let more_dots = bind_ok (natural faults.Limits 0 EXTRA_LIMIT keys.extra_dots) _ bounds rank.1.1 in
+    let more_rank = bind_ok (natural faults.Limits 0 EXTRA_LIMIT keys.extra_rank) _ bounds more_dots.1.1 in
     subst BoundsWithin (same_ok _ bounds more_rank.1.1) (record {
-      dots_cap = (natural_within faults.Limits 0 20 keys.dots_cap dots.0 dots.1.0).1;
-      rank_cap = (natural_within faults.Limits 0 20 keys.rank_cap rank.0 rank.1.0).1;
-      extra_dots = (natural_within faults.Limits 0 5 keys.extra_dots more_dots.0 more_dots.1.0).1;
-      extra_rank = (natural_within faults.Limits 0 5 keys.extra_rank more_rank.0 more_rank.1.0).1;
+      dots_cap = (natural_within faults.Limits 0 CAP_LIMIT keys.dots_cap dots.0 dots.1.0).1;
+      rank_cap = (natural_within faults.Limits 0 CAP_LIMIT keys.rank_cap rank.0 rank.1.0).1;
+      extra_dots = (natural_within faults.Limits 0 EXTRA_LIMIT keys.extra_dots more_dots.0 more_dots.1.0).1;
+      extra_rank = (natural_within faults.Limits 0 EXTRA_LIMIT keys.extra_rank more_rank.0 more_rank.1.0).1;
     })
 
 budget_is : (keys : BudgetKeys) (budget : Budget) → budget_of keys ≡ Ok budget → BudgetWithin budget
 unfolding budget_of
 budget_is keys budget e =
-    let pairs = bind_ok (natural faults.Budget 0 10000000 keys.pairs) _ budget e in
-    let candidates = bind_ok (natural faults.Budget 0 20000 keys.candidates) _ budget pairs.1.1 in
+    let pairs = bind_ok (natural faults.Budget 0 PAIR_LIMIT keys.pairs) _ budget e in
+    let candidates = bind_ok (natural faults.Budget 0 CANDIDATE_LIMIT keys.candidates) _ budget pairs.1.1 in
     subst BudgetWithin (same_ok _ budget candidates.1.1) (record {
-      pairs = (natural_within faults.Budget 0 10000000 keys.pairs pairs.0 pairs.1.0).1;
-      candidates = (natural_within faults.Budget 0 20000 keys.candidates candidates.0 candidates.1.0).1;
+      pairs = (natural_within faults.Budget 0 PAIR_LIMIT keys.pairs pairs.0 pairs.1.0).1;
+      candidates = (natural_within faults.Budget 0 CANDIDATE_LIMIT keys.candidates candidates.0 candidates.1.0).1;
     })
 
 probe_is : (n : ℕ) → n ≤ VARIABLES → (numbers : NumbersValue) (keys : ProbeKeys) (probe : Probe) → probe_of n numbers keys ≡ Ok probe → IsProbe n probe
@@ -237,9 +249,9 @@ body_is n most keys body e =
     })
 
 -- the limits, put together
-pub limits_of : (n : ℕ) (body : BodyData) (bounds : Bounds) (budget : Budget) (probe : Option Probe) → 1 ≤ n → n ≤ VARIABLES → IsBody n body → BoundsWithin bounds → BudgetWithin budget → ForSome probe (IsProbe n)
-    → FamilyLimits n body.baikov body.targets body.zero bounds budget probe
-limits_of n body bounds budget probe some few h bounds_within budget_within probe_fits = record {
+pub limits_of : (n : ℕ) (body : BodyData) (bounds : Bounds) (caps : List SectorCaps) (budget : Budget) (probe : Option Probe) → 1 ≤ n → n ≤ VARIABLES → IsBody n body → BoundsWithin bounds → AreCaps n caps → BudgetWithin budget → ForSome probe (IsProbe n)
+    → FamilyLimits n body.baikov body.targets body.zero bounds caps budget probe
+limits_of n body bounds caps budget probe some few h bounds_within own budget_within probe_fits = record {
   some_variables = some;
   few_variables = few;
   polynomial = h.baikov.read.polynomial;
@@ -251,32 +263,37 @@ limits_of n body bounds budget probe some few h bounds_within budget_within prob
   few_zero = h.zero.few;
   zero_below = h.zero.each;
   bounds_within = bounds_within;
+  few_caps = own.few;
+  caps_within = own.each;
+  distinct_caps = own.distinct;
   budget_within = budget_within;
   probe_fits = probe_fits;
 }
 
-pub keys_within : (n : ℕ) → 1 ≤ n → n ≤ VARIABLES → (need : Need) (keys : DocumentKeys) (body : BodyData) (bounds : Bounds) (budget : Budget) (probe : Option Probe) → body_of n keys.body ≡ Ok body → bounds_of keys.bounds ≡ Ok bounds → budget_of keys.budget ≡ Ok budget
-    → needed_probe need n body.numbers keys.probe ≡ Ok probe → FamilyLimits n body.baikov body.targets body.zero bounds budget probe
-keys_within n some few need keys body bounds budget probe a b c d =
-    limits_of n body bounds budget probe some few (body_is n few keys.body body a) (bounds_are keys.bounds bounds b) (budget_is keys.budget budget c) (needed_probe_is need n few body.numbers keys.probe probe d)
+pub keys_within : (n : ℕ) → 1 ≤ n → n ≤ VARIABLES → (need : Need) (keys : DocumentKeys) (body : BodyData) (bounds : Bounds) (caps : List SectorCaps) (budget : Budget) (probe : Option Probe) → body_of n keys.body ≡ Ok body → bounds_of keys.bounds ≡ Ok bounds → caps_of n keys.sectors ≡ Ok caps → budget_of keys.budget ≡ Ok budget
+    → needed_probe need n body.numbers keys.probe ≡ Ok probe → FamilyLimits n body.baikov body.targets body.zero bounds caps budget probe
+keys_within n some few need keys body bounds caps budget probe a b own c d =
+    limits_of n body bounds caps budget probe some few (body_is n few keys.body body a) (bounds_are keys.bounds bounds b) (caps_are n keys.sectors caps own) (budget_is keys.budget budget c) (needed_probe_is need n few body.numbers keys.probe probe d)
 
 keys_limits : (need : Need) (keys : DocumentKeys) (family : FamilyData) → family_of_keys need keys ≡ Ok family → DataWithin family
 unfolding family_of_keys
 keys_limits need keys family e =
-    let name = bind_ok (header_of keys.header) _ family e in
-    let shape = bind_ok (shape_of keys.header) _ family name.1.1 in
+    let version = bind_ok (version_of keys.header.version) _ family e in
+    let name = bind_ok (name_in keys.header.name) _ family version.1.1 in
+    let shape = bind_ok (shape_of version.0 keys.header) _ family name.1.1 in
     let body = bind_ok (body_of shape.0.variables keys.body) _ family shape.1.1 in
     let bounds = bind_ok (bounds_of keys.bounds) _ family body.1.1 in
-    let budget = bind_ok (budget_of keys.budget) _ family bounds.1.1 in
+    let caps = bind_ok (caps_of shape.0.variables keys.sectors) _ family bounds.1.1 in
+    let budget = bind_ok (budget_of keys.budget) _ family caps.1.1 in
     let probe = bind_ok (needed_probe need shape.0.variables body.0.numbers keys.probe) _ family budget.1.1 in
     let sector = bind_ok (sector_check need shape.0.variables) _ family probe.1.1 in
-    let fits = shape_is keys.header shape.0 shape.1.0 in
-    subst DataWithin (same_ok _ family sector.1.1) (keys_within shape.0.variables fits.some fits.few need keys body.0 bounds.0 budget.0 probe.0 body.1.0 bounds.1.0 budget.1.0 probe.1.0)
+    let fits = shape_is version.0 keys.header shape.0 shape.1.0 in
+    subst DataWithin (same_ok _ family sector.1.1) (keys_within shape.0.variables fits.some fits.few need keys body.0 bounds.0 caps.0 budget.0 probe.0 body.1.0 bounds.1.0 caps.1.0 budget.1.0 probe.1.0)
 
 pub accepted_within : (need : Need) (bytes : List ℕ) (family : FamilyData) → family_of need bytes ≡ Ok family → DataWithin family
 unfolding family_of
 accepted_within need bytes family e =
-    let short = unless_ok (nat_lt 1048576 (length bytes)) _ faults.TooLong family e in
+    let short = unless_ok (nat_lt MAX_FILE (length bytes)) _ faults.TooLong family e in
     let table = bind_ok (table_of_bytes bytes) _ family short.1 in
     let keys = bind_ok (document_keys table.0) _ family table.1.1 in
     keys_limits need keys.0 family keys.1.1
@@ -298,11 +315,13 @@ sector_given number n checked e =
 needs_met : (need : Need) (keys : DocumentKeys) (family : FamilyData) → family_of_keys need keys ≡ Ok family → MeetsNeed need family
 unfolding family_of_keys
 needs_met need keys family e =
-    let name = bind_ok (header_of keys.header) _ family e in
-    let shape = bind_ok (shape_of keys.header) _ family name.1.1 in
+    let version = bind_ok (version_of keys.header.version) _ family e in
+    let name = bind_ok (name_in keys.header.name) _ family version.1.1 in
+    let shape = bind_ok (shape_of version.0 keys.header) _ family name.1.1 in
     let body = bind_ok (body_of shape.0.variables keys.body) _ family shape.1.1 in
     let bounds = bind_ok (bounds_of keys.bounds) _ family body.1.1 in
-    let budget = bind_ok (budget_of keys.budget) _ family bounds.1.1 in
+    let caps = bind_ok (caps_of shape.0.variables keys.sectors) _ family bounds.1.1 in
+    let budget = bind_ok (budget_of keys.budget) _ family caps.1.1 in
     let probe = bind_ok (needed_probe need shape.0.variables body.0.numbers keys.probe) _ family budget.1.1 in
     let sector = bind_ok (sector_check need shape.0.variables) _ family probe.1.1 in
     subst (MeetsNeed need) (same_ok _ family sector.1.1) (record {
@@ -313,7 +332,7 @@ needs_met need keys family e =
 pub accepted_needs : (need : Need) (bytes : List ℕ) (family : FamilyData) → family_of need bytes ≡ Ok family → MeetsNeed need family
 unfolding family_of
 accepted_needs need bytes family e =
-    let short = unless_ok (nat_lt 1048576 (length bytes)) _ faults.TooLong family e in
+    let short = unless_ok (nat_lt MAX_FILE (length bytes)) _ faults.TooLong family e in
     let table = bind_ok (table_of_bytes bytes) _ family short.1 in
     let keys = bind_ok (document_keys table.0) _ family table.1.1 in
     needs_met need keys.0 family keys.1.1

@@ -1,5 +1,6 @@
 pub mod Keys
 pub mod Lists
+pub mod Known
 pub mod Collect
 pub mod Into
 pub mod Toml
@@ -8,6 +9,7 @@ pub mod Binds
 pub mod FirstOccurrences
 pub mod TargetLimits
 pub mod SectorLimits
+pub mod CapsLimits
 pub mod PolynomialLimits
 pub mod Texts
 pub mod TextLimits

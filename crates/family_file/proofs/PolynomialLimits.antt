@@ -73,7 +73,7 @@ product_keys P Q R both (t ∷ f) g h k =
 
 joined_variables : (n : ℕ) (a b : List ℕ) → HasVariables n a → HasVariables n b → HasVariables n (add_exponents a b)
 joined_variables n a b h k = record {
-  nine = length-padded_sum ◌+◌ VARIABLES a b h.nine k.nine;
+  each_variable = length-padded_sum ◌+◌ VARIABLES a b h.each_variable k.each_variable;
   none_beyond = λ i le.
       get_or-padded_sum ◌+◌ 0 (λ x. omega arith) (λ x. omega arith) a b i
       ∙ (λ j. h.none_beyond i le j + k.none_beyond i le j);
@@ -146,7 +146,7 @@ zeros_at (suc k) zero = refl
 zeros_at (suc k) (suc i) = zeros_at k i
 
 pub no_exponents : (n : ℕ) → HasVariables n (replicate VARIABLES 0)
-no_exponents n = record { nine = refl; none_beyond = λ i le. zeros_at VARIABLES i }
+no_exponents n = record { each_variable = refl; none_beyond = λ i le. zeros_at VARIABLES i }
 
 no_degree : sum (replicate VARIABLES 0) ≤ DEGREE_LIMIT
 no_degree = let none : sum (replicate VARIABLES 0) ≡ 0 = refl in omega (arith, none)

@@ -6,6 +6,8 @@ use Rattle.std.specs.List.{All, AllByRecursion, list_any}
 use Rattle.std.proofs.lemmas.Bool.Decides.{nat_tests}
 use Rattle.toml.specs.Data.{Data}
 use Rattle.sector_lattice.specs.declared.sector.Sector.{Sector}
+use Rattle.family.specs.declared.limits.TheConstants.{SECTOR_LIMIT}
+use Rattle.family_file.specs.declared.fault.FileFault.{FileFault}
 use Rattle.family_file.specs.declared.fault.FileFault.TheVariants.{ZeroSectors}
 use Rattle.family_file.specs.Reading.{collect}
 use Rattle.family_file.specs.Arrays.{list_in, place_in, are_distinct, sector_number, sector_in, zero_sectors_of}
@@ -31,26 +33,26 @@ kept k m h = grind (arith, pow-suc)
 pub record IsBelow (n : ℕ) (sector : Sector) : Type 0 where
   pub below : sector.0 < 2 ^ n
 
-sector_is : (n : ℕ) (d : Data) (sector : Sector) → sector_in n d ≡ Ok sector → IsBelow n sector
+pub sector_is : (fault : FileFault) (n : ℕ) (d : Data) (sector : Sector) → sector_in fault n d ≡ Ok sector → IsBelow n sector
 unfolding sector_in
-sector_is n d sector h =
-    let listed = bind_ok (list_in ZeroSectors d) _ sector h in
-    let read = bind_ok (collect (place_in n) listed.0) _ sector listed.1.1 in
-    let made = if_ok (are_distinct read.0) _ sector ZeroSectors read.1.1 in
+sector_is fault n d sector h =
+    let listed = bind_ok (list_in fault d) _ sector h in
+    let read = bind_ok (collect (place_in fault n) listed.0) _ sector listed.1.1 in
+    let made = if_ok (are_distinct nat_eq read.0) _ sector fault read.1.1 in
     subst (IsBelow n) made.1 (record { below = number_below n read.0 })
 
 all_below : (n : ℕ) (sectors : List Sector) → AllByRecursion (IsBelow n) sectors → All (λ sector. sector.0 < 2 ^ n) sectors
 all_below n sectors h k d below = (All-each (IsBelow n) sectors h k d below).below
 
 pub record AreZeroSectors (n : ℕ) (sectors : List Sector) : Type 0 where
-  pub few : length sectors ≤ 512
+  pub few : length sectors ≤ SECTOR_LIMIT
   pub each : All (λ sector. sector.0 < 2 ^ n) sectors
 
 pub zero_sectors_are : (n : ℕ) (ds : Option (List Data)) (sectors : List Sector) → zero_sectors_of n ds ≡ Ok sectors → AreZeroSectors n sectors
 unfolding zero_sectors_of
 zero_sectors_are n None sectors h = subst (AreZeroSectors n) (same_ok [] sectors h) (record { few = omega arith; each = λ k d below. absurd (omega arith) })
 zero_sectors_are n (Some ds) sectors h =
-    let within = unless_ok (nat_lt 512 (length ds)) _ ZeroSectors sectors h in
-    let many : length sectors ≡ length ds = collect_length (sector_in n) ds sectors within.1 in
-    let few : length ds ≤ 512 = grind (arith, nat_tests, within.0) in
-    record { few = omega (arith, many, few); each = all_below n sectors (collect_each (IsBelow n) (sector_in n) (sector_is n) ds sectors within.1) }
+    let within = unless_ok (nat_lt SECTOR_LIMIT (length ds)) _ ZeroSectors sectors h in
+    let many : length sectors ≡ length ds = collect_length (sector_in ZeroSectors n) ds sectors within.1 in
+    let few : length ds ≤ SECTOR_LIMIT = grind (arith, nat_tests, within.0) in
+    record { few = omega (arith, many, few); each = all_below n sectors (collect_each (IsBelow n) (sector_in ZeroSectors n) (sector_is ZeroSectors n) ds sectors within.1) }

@@ -20,7 +20,7 @@ use Rattle.family_file.proofs.PolynomialLimits.{IsRead, no_exponents, read_const
 
 variable_exponents : (n k : ℕ) → k < n → n ≤ VARIABLES → HasVariables n (slice_set (replicate VARIABLES 0) k 1)
 variable_exponents n k below few = record {
-  nine = length-set (replicate VARIABLES 0) k 1;
+  each_variable = length-set (replicate VARIABLES 0) k 1;
   none_beyond = λ i le. get_or-set_other (replicate VARIABLES 0) k i 1 0 (λ same. omega (arith, below, le, same)) ∙ (no_exponents n).none_beyond i le;
 }
 

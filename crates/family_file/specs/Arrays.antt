@@ -3,6 +3,7 @@
 --     first_occurrences targets   each target once, in the order in which they are first met
 --     first_place targets powers  the place, from 0, at which an integral is first met
 --     targets_of n ds             the targets of an array
+--     sector_in fault n d         the sector of an array of variables
 --     zero_sectors_of n ds        the sectors of arrays of variables
 use Rattle.std.specs.Prelude.{ℕ, zero, suc, ◌+◌, ◌^◌, ◌==◌, ℤ, nat_eq, nat_lt, Bool, true, not, ◌&&◌, Option, Some, None, List, [], ◌∷◌, length, Result, Ok, Err, if◌then◌else◌}
 use Rattle.std.specs.Option.{ok_or}
@@ -58,30 +59,32 @@ unfoldable pub targets_of : ℕ → List Data → Result (List (List ℤ)) FileF
 targets_of n ds = if nat_lt TARGET_LIMIT (length ds) then Err Targets else targets_in n ds
 
 -- the number of a variable
-unfoldable pub place_in : ℕ → Data → Result ℕ FileFault
-place_in n d = do
-  z ← integer_in ZeroSectors d
-  natural ZeroSectors 1 n z
+unfoldable pub place_in : FileFault → ℕ → Data → Result ℕ FileFault
+place_in fault n d = do
+  z ← integer_in fault d
+  natural fault 1 n z
 
-abbrev pub are_distinct : List ℕ → Bool
-are_distinct [] = true
-are_distinct (place ∷ places) = not (list_any (nat_eq place) places) && are_distinct places
+-- no two are the same
+abbrev pub are_distinct : {X : Type 0} → (X → X → Bool) → List X → Bool
+are_distinct same [] = true
+are_distinct same (x ∷ xs) = not (list_any (same x) xs) && are_distinct same xs
 
 -- the sum of 2^(i - 1) over the variables i up to n that are among these
 abbrev pub sector_number : ℕ → List ℕ → ℕ
 sector_number zero places = 0
 sector_number (suc n) places = sector_number n places + (if list_any (nat_eq (suc n)) places then 2 ^ n else 0)
 
-abbrev pub sector_of_places : ℕ → List ℕ → Result Sector FileFault
-sector_of_places n places = if are_distinct places then Ok (record { 0 = sector_number n places }) else Err ZeroSectors
+abbrev pub sector_of_places : FileFault → ℕ → List ℕ → Result Sector FileFault
+sector_of_places fault n places = if are_distinct nat_eq places then Ok (record { 0 = sector_number n places }) else Err fault
 
-unfoldable pub sector_in : ℕ → Data → Result Sector FileFault
-sector_in n d = do
-  ds ← list_in ZeroSectors d
-  places ← collect (place_in n) ds
-  sector_of_places n places
+-- a sector, as an array of its variables in any order
+unfoldable pub sector_in : FileFault → ℕ → Data → Result Sector FileFault
+sector_in fault n d = do
+  ds ← list_in fault d
+  places ← collect (place_in fault n) ds
+  sector_of_places fault n places
 
 -- the zero sectors of an array, which has no more entries than the limit
 unfoldable pub zero_sectors_of : ℕ → Option (List Data) → Result (List Sector) FileFault
 zero_sectors_of n None = Ok []
-zero_sectors_of n (Some ds) = if nat_lt SECTOR_LIMIT (length ds) then Err ZeroSectors else collect (sector_in n) ds
+zero_sectors_of n (Some ds) = if nat_lt SECTOR_LIMIT (length ds) then Err ZeroSectors else collect (sector_in ZeroSectors n) ds

@@ -7,14 +7,14 @@ use Rattle.toml.specs.Data.{Members}
 use Rattle.toml.specs.Parse.{parse_document}
 use Rattle.ibp_field.specs.Arithmetic.{mul_mod, sub_mod}
 use Rattle.ibp_algebra.specs.Polynomial.{Polynomial}
-use Rattle.mono_order.specs.declared.limits.TheConstants.{VARIABLES}
 use Rattle.poly_text.specs.PolyText.{NumbersValue}
 use Rattle.poly_text.specs.Value.{is_zero}
 use Rattle.sector_lattice.specs.declared.sector.Sector.{Sector}
-use Rattle.family_file.specs.declared.limits.TheConstants.{LOOP_LIMIT, LEG_LIMIT, MAX_FILE}
+use Rattle.family_file.specs.declared.limits.TheConstants.{LOOP_LIMIT, MAX_FILE}
 use Rattle.family.specs.declared.limits.TheConstants.{CAP_LIMIT, EXTRA_LIMIT, PAIR_LIMIT, CANDIDATE_LIMIT}
 use Rattle.family_file.specs.declared.fault.FileFault.{FileFault}
 use Rattle.family_file.specs.declared.fault.FileFault.TheVariants.{TooLong, NotToml, Header, Shape, Number, Baikov, ZeroBaikov, Limits, Budget, Probe, NoSector}
+use Rattle.family_file.specs.declared.version.Version.{Version}
 use Rattle.family_file.specs.declared.need.Need.{Need}
 use Rattle.family_file.specs.declared.need.Need.TheVariants as needs
 use Rattle.family.specs.declared.parts.Bounds.{Bounds}
@@ -24,9 +24,11 @@ use Rattle.family.specs.FamilyData.{FamilyData}
 use Rattle.family_file.specs.Need.{needs_probe}
 use Rattle.family_file.specs.Reading.{◌>>=◌}
 use Rattle.family_file.specs.Numbers.{natural}
+use Rattle.family_file.specs.Version.{version_of, leg_limit, variable_limit}
 use Rattle.family.specs.Name.{name_of}
 use Rattle.family_file.specs.Document.{HeaderKeys, BodyKeys, BoundsKeys, BudgetKeys, ProbeKeys, DocumentKeys, document_keys}
 use Rattle.family_file.specs.Arrays.{powers_from, targets_of, zero_sectors_of}
+use Rattle.family_file.specs.Caps.{caps_of}
 use Rattle.family_file.specs.Polynomials.{polynomial_in, field_of, residue_in, numbers_of}
 
 pub record ShapeData : Type 0 where
@@ -45,18 +47,16 @@ pub record BodyData : Type 0 where
 unfoldable pub table_of_bytes : List ℕ → Result Members FileFault
 table_of_bytes bytes = if is_utf8 bytes then ok_or (parse_document bytes) NotToml else Err NotToml
 
--- the name, for the one version that there is
-unfoldable pub header_of : HeaderKeys → Result (List ℕ) FileFault
-header_of header = do
-  version ← natural Header 1 1 header.version
-  ok_or (name_of header.name) Header
+-- the name
+abbrev pub name_in : List ℕ → Result (List ℕ) FileFault
+name_in bytes = ok_or (name_of bytes) Header
 
 -- L loops and E independent external momenta have L(L + 1)/2 + L E variables
-unfoldable pub shape_of : HeaderKeys → Result ShapeData FileFault
-shape_of header = do
+unfoldable pub shape_of : Version → HeaderKeys → Result ShapeData FileFault
+shape_of version header = do
   loops ← natural Shape 1 LOOP_LIMIT header.loops
-  legs ← natural Shape 0 LEG_LIMIT header.legs
-  variables ← natural Shape 1 VARIABLES header.variables
+  legs ← natural Shape 0 (leg_limit version) header.legs
+  variables ← natural Shape 1 (variable_limit version) header.variables
   if variables == loops * (loops + 1) / 2 + loops * legs then Ok (record { loops = loops; legs = legs; variables = variables }) else Err Shape
 
 -- (D - L - E - 1)/2 modulo the prime, of which half of one is 1073741824
@@ -119,14 +119,16 @@ body_of n body = do
 -- the family of what the keys hold
 unfoldable pub family_of_keys : Need → DocumentKeys → Result FamilyData FileFault
 family_of_keys need keys = do
-  name ← header_of keys.header
-  shape ← shape_of keys.header
+  version ← version_of keys.header.version
+  name ← name_in keys.header.name
+  shape ← shape_of version keys.header
   body ← body_of shape.variables keys.body
   bounds ← bounds_of keys.bounds
+  caps ← caps_of shape.variables keys.sectors
   budget ← budget_of keys.budget
   probe ← needed_probe need shape.variables body.numbers keys.probe
   sector ← sector_check need shape.variables
-  Ok (record { name = name; n = shape.variables; gamma = gamma_of body.dimension shape; baikov = body.baikov; targets = body.targets; zero = body.zero; bounds = bounds; budget = budget; probe = probe })
+  Ok (record { name = name; n = shape.variables; gamma = gamma_of body.dimension shape; baikov = body.baikov; targets = body.targets; zero = body.zero; bounds = bounds; caps = caps; budget = budget; probe = probe })
 
 -- the family that the bytes describe, or the first fault that they have
 unfoldable pub family_of : Need → List ℕ → Result FamilyData FileFault

@@ -2,11 +2,13 @@ pub mod Reading
 pub mod Table
 pub mod KeyViews
 pub mod Numbers
+pub mod Version
 pub mod Document
 pub mod Views
 pub mod Fault
 pub mod Need
 pub mod Arrays
+pub mod Caps
 pub mod Polynomials
 pub mod Accumulated
 pub mod Family

@@ -2,6 +2,7 @@
 #![tactic(auto)]
 
 mod arrays;
+mod caps;
 mod document;
 mod fault;
 pub mod laws;
@@ -13,13 +14,16 @@ mod polynomials;
 mod read;
 mod sectors;
 mod table;
+mod version;
 
 pub use family::{
     Bounds, Budget, CANDIDATE_LIMIT, CAP_LIMIT, EXTRA_LIMIT, FAMILY_NAME_LIMIT, Family, Field,
-    GREATEST_POWER, LEAST_POWER, Name, PAIR_LIMIT, Probe, SECTOR_LIMIT, StrippedField,
-    TARGET_LIMIT,
+    GREATEST_POWER, LEAST_POWER, Name, PAIR_LIMIT, Probe, SECTOR_CAPS_LIMIT, SECTOR_LIMIT,
+    SectorCaps, StrippedField, TARGET_LIMIT,
 };
 pub use fault::{FamilyFault, FileFault};
-pub use limits::{LEG_LIMIT, LOOP_LIMIT, MAX_FILE, NUMBER_LIMIT};
+pub use limits::{
+    LEG_LIMIT, LOOP_LIMIT, MAX_FILE, NUMBER_LIMIT, VERSION_1_LEG_LIMIT, VERSION_1_VARIABLE_LIMIT,
+};
 pub use need::Need;
 pub use read::read_family;

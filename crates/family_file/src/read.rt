@@ -7,27 +7,28 @@ ghost use Rattle.family_file.specs.declared.limits.TheConstants.{LOOP_LIMIT, LEG
 ghost use Rattle.family_file.specs.Reading.{Returns, Gives};
 ghost use Rattle.family_file.specs.Document.{document_keys};
 ghost use Rattle.family_file.specs.Views.{header_view, body_view, bounds_view, budget_view, probe_view, document_view};
-ghost use Rattle.family_file.specs.Family.{table_of_bytes, header_of, shape_of, gamma_of, unless_zero, bounds_of, budget_of, probe_of, needed_probe, sector_check, baikov_of, body_of, family_of_keys, family_of};
+ghost use Rattle.family_file.specs.Family.{table_of_bytes, name_in, shape_of, gamma_of, unless_zero, bounds_of, budget_of, probe_of, needed_probe, sector_check, baikov_of, body_of, family_of_keys, family_of};
 ghost use Rattle.family_file.specs.ReadViews.{shape_view, read_body_view};
 ghost use Rattle.family.specs.FamilyView.{family_view};
 
 use crate::arrays::{integral_from, targets_of};
+use crate::caps::caps_of;
 use crate::document::{
     BodyKeys, BoundsKeys, BudgetKeys, DocumentKeys, HeaderKeys, ProbeKeys, document_keys,
 };
 use crate::fault::{FamilyFault, FileFault};
-use crate::limits::{LEG_LIMIT, LOOP_LIMIT, MAX_FILE};
+use crate::limits::{LOOP_LIMIT, MAX_FILE};
 use crate::named::numbers_of;
 use crate::need::Need;
 use crate::numbers::natural;
 use crate::polynomials::{field_of, polynomial_in, residue_in};
 use crate::sectors::zero_sectors_of;
+use crate::version::{Version, version_of};
 use family::{
     Bounds, Budget, CANDIDATE_LIMIT, CAP_LIMIT, EXTRA_LIMIT, Family, Field, Name, PAIR_LIMIT, Probe,
 };
 use ibp_base::List;
 use ibp_field::Residue;
-use mono_order::VARIABLES;
 use poly_text::Numbers;
 use sector_lattice::{Integral, Sector};
 use sparse_poly::Poly;
@@ -48,12 +49,10 @@ fn table_of_bytes(alloc: Global, bytes: &[u8]) -> Result<Table, FamilyFault>
     }
 }
 
-#[tactic(auto, unfolding(crate::specs::Family::header_of))]
-fn header_of(alloc: Global, header: &HeaderKeys<'_>) -> Result<Name, FamilyFault>
-    ensures { Gives (λ name. name) result (header_of (header_view header.now)) }
+fn name_in(alloc: Global, name: &str) -> Result<Name, FamilyFault>
+    ensures { Gives (λ name. name) result (name_in name.now) }
 {
-    natural(header.version, 1, 1, FileFault::Header)?;
-    match Name::from_bytes(alloc, header.name.as_bytes())? {
+    match Name::from_bytes(alloc, name.as_bytes())? {
         Some(name) => Ok(name),
         None => Err(FamilyFault::File(FileFault::Header)),
     }
@@ -68,16 +67,21 @@ struct Shape {
 }
 
 #[tactic(auto, unfolding(crate::specs::Family::shape_of))]
-fn shape_of(header: &HeaderKeys<'_>) -> Result<Shape, FileFault>
-    ensures value { Returns shape_view result (shape_of (header_view header.now)) }
+fn shape_of(version: Version, header: &HeaderKeys<'_>) -> Result<Shape, FileFault>
+    ensures value { Returns shape_view result (shape_of version (header_view header.now)) }
     ensures some { IfOk result (λ s. 1 ≤ s.variables) }
     ensures few { IfOk result (λ s. s.variables ≤ VARIABLES) }
     ensures loops { IfOk result (λ s. s.loops ≤ LOOP_LIMIT) }
     ensures legs { IfOk result (λ s. s.legs ≤ LEG_LIMIT) }
 {
     let loops = natural(header.loops, 1, LOOP_LIMIT, FileFault::Shape)?;
-    let legs = natural(header.legs, 0, LEG_LIMIT, FileFault::Shape)?;
-    let variables = natural(header.variables, 1, VARIABLES as u32, FileFault::Shape)?;
+    let legs = natural(header.legs, 0, version.leg_limit(), FileFault::Shape)?;
+    let variables = natural(
+        header.variables,
+        1,
+        version.variable_limit(),
+        FileFault::Shape,
+    )?;
     if variables == loops * (loops + 1) / 2 + loops * legs {
         Ok(Shape {
             loops,
@@ -246,11 +250,13 @@ fn body_of(alloc: Global, n: u8, body: &BodyKeys<'_>) -> Result<Body, FamilyFaul
 fn family_of_keys(alloc: Global, need: Need, keys: &DocumentKeys<'_>) -> Result<Family, FamilyFault>
     ensures { Gives family_view result (family_of_keys need (document_view keys.now)) }
 {
-    let name = header_of(alloc, &keys.header)?;
-    let shape = shape_of(&keys.header)?;
+    let version = version_of(keys.header.version)?;
+    let name = name_in(alloc, keys.header.name)?;
+    let shape = shape_of(version, &keys.header)?;
     let n = shape.variables;
     let body = body_of(alloc, n, &keys.body)?;
     let bounds = bounds_of(&keys.bounds)?;
+    let caps = caps_of(alloc, keys.sectors, n)?;
     let budget = budget_of(&keys.budget)?;
     let probe = needed_probe(alloc, need, n, &body.numbers, &keys.probe)?;
     check_sector(need, n)?;
@@ -269,6 +275,7 @@ fn family_of_keys(alloc: Global, need: Need, keys: &DocumentKeys<'_>) -> Result<
         targets: List::from_vec(targets),
         zero: List::from_vec(zero),
         bounds,
+        caps: List::from_vec(caps),
         budget,
         probe,
     })

@@ -1,9 +1,10 @@
-//! Zero sectors that stand in arrays of variables.
+//! Sectors that stand in arrays of variables.
 
 ghost use Rattle.std.specs.Prelude.{◌≡◌, ◌≤◌, ◌<◌, ◌^◌, nat_eq, map, option_map};
 ghost use Rattle.std.specs.List.{list_any};
 ghost use Rattle.toml.specs.View.{view};
 ghost use Rattle.mono_order.specs.declared.limits.TheConstants.{VARIABLES};
+ghost use Rattle.family_file.specs.declared.fault.FileFault.TheVariants.{ZeroSectors};
 ghost use Rattle.family_file.specs.Reading.{Returns, Gives, collect};
 ghost use Rattle.family_file.specs.Arrays.{place_in, are_distinct, sector_number, sector_of_places, sector_in, zero_sectors_of};
 
@@ -16,19 +17,23 @@ use std::alloc::Global;
 use toml::value::{Array, Value};
 
 #[tactic(auto, unfolding(crate::specs::Arrays::place_in))]
-fn place_in(value: &Value, n: u8) -> Result<u32, FileFault>
-    ensures { Returns (λ i. i) result (place_in n (view value.now)) }
+fn place_in(value: &Value, n: u8, fault: FileFault) -> Result<u32, FileFault>
+    ensures { Returns (λ i. i) result (place_in fault n (view value.now)) }
 {
-    let fault = FileFault::ZeroSectors;
     natural(integer_in(value, fault)?, 1, u32::from(n), fault)
 }
 
-fn collect_places(alloc: Global, values: &[Value], n: u8) -> Result<Vec<u32>, FamilyFault>
-    ensures { Gives (λ v. v.items) result (collect (place_in n) (map view values.now)) }
+fn collect_places(
+    alloc: Global,
+    values: &[Value],
+    n: u8,
+    fault: FileFault,
+) -> Result<Vec<u32>, FamilyFault>
+    ensures { Gives (λ v. v.items) result (collect (place_in fault n) (map view values.now)) }
 {
     let mut places = Vec::new(alloc);
     for value in values {
-        places.push(place_in(value, n)?)?;
+        places.push(place_in(value, n, fault)?)?;
     }
     Ok(places)
 }
@@ -40,7 +45,7 @@ fn is_among(places: &[u32], place: u32) -> bool
 }
 
 fn are_distinct(places: &[u32]) -> bool
-    ensures { result ≡ are_distinct places.now }
+    ensures { result ≡ are_distinct nat_eq places.now }
 {
     match places {
         [] => true,
@@ -64,34 +69,40 @@ fn sector_number(n: u8, places: &[u32]) -> u16
     }
 }
 
-fn sector_of_places(n: u8, places: &[u32]) -> Result<Sector, FileFault>
+fn sector_of_places(n: u8, places: &[u32], fault: FileFault) -> Result<Sector, FileFault>
     requires { n ≤ VARIABLES }
-    ensures { Returns (λ s. s) result (sector_of_places n places.now) }
+    ensures { Returns (λ s. s) result (sector_of_places fault n places.now) }
 {
     if are_distinct(places) {
         Ok(Sector(sector_number(n, places)))
     } else {
-        Err(FileFault::ZeroSectors)
+        Err(fault)
     }
 }
 
+/// A sector, as an array of its variables, in a place that has this fault.
 #[tactic(auto, unfolding(crate::specs::Arrays::sector_in))]
-fn sector_in(alloc: Global, value: &Value, n: u8) -> Result<Sector, FamilyFault>
+pub fn sector_in(
+    alloc: Global,
+    value: &Value,
+    n: u8,
+    fault: FileFault,
+) -> Result<Sector, FamilyFault>
     requires { n ≤ VARIABLES }
-    ensures { Gives (λ s. s) result (sector_in n (view value.now)) }
+    ensures { Gives (λ s. s) result (sector_in fault n (view value.now)) }
 {
-    let values = list_in(value, FileFault::ZeroSectors)?;
-    let places = collect_places(alloc, values, n)?;
-    Ok(sector_of_places(n, &places)?)
+    let values = list_in(value, fault)?;
+    let places = collect_places(alloc, values, n, fault)?;
+    Ok(sector_of_places(n, &places, fault)?)
 }
 
 fn collect_sectors(alloc: Global, values: &[Value], n: u8) -> Result<Vec<Sector>, FamilyFault>
     requires { n ≤ VARIABLES }
-    ensures { Gives (λ v. v.items) result (collect (sector_in n) (map view values.now)) }
+    ensures { Gives (λ v. v.items) result (collect (sector_in ZeroSectors n) (map view values.now)) }
 {
     let mut sectors = Vec::new(alloc);
     for value in values {
-        sectors.push(sector_in(alloc, value, n)?)?;
+        sectors.push(sector_in(alloc, value, n, FileFault::ZeroSectors)?)?;
     }
     Ok(sectors)
 }

@@ -1,16 +1,11 @@
 -- Degrees: no term of a derivative has a greater one.
-use Rattle.std.proofs.Common.{ℕ, ◌-◌, ◌<◌, ◌≤◌, ⊎_elim, List, [], ◌∷◌, length, get_or, set, sum, ◌∙◌, arith}
-use Rattle.std.proofs.lemmas.Bool.{cases_lt}
-use Rattle.std.proofs.lemmas.List.{set_past}
+use Rattle.std.proofs.Common.{ℕ, ◌≤◌, List, [], ◌∷◌, get_or, sum, arith}
 use Rattle.std.specs.List.{All}
-use Rattle.ibp_algebra.specs.FormalSum.{AllKeys, IsCanonical}
-use Rattle.ibp_algebra.specs.Exponents.{same_exponents, deg_rev_lex}
-use Rattle.ibp_algebra.specs.ExponentOrder.{exponents_decide, deg_rev_lex_total}
-use Rattle.ibp_algebra.specs.Polynomial.{Polynomial, SamePolynomial, degree_of, derivative}
+use Rattle.ibp_algebra.specs.FormalSum.{IsCanonical}
+use Rattle.ibp_algebra.specs.Exponents.{deg_rev_lex}
+use Rattle.ibp_algebra.specs.Polynomial.{Polynomial, SamePolynomial, derivative}
 use Rattle.ibp_algebra.proofs.SumOfExponents.{one_less}
 use Rattle.ibp_algebra.proofs.Degrees.{AllKeys-same}
-use Rattle.ibp_algebra.proofs.Terms.{coefficient-CountingKeys, AllKeys-canonical}
-use Rattle.ibp_algebra.proofs.Divisibility.{CountingKeys-from_all}
 use Rattle.ibp_algebra.proofs.Combinations.{AllKeys-weaker}
 use Rattle.family.specs.Shapes.{IsPolynomial}
 use Rattle.ibp_relation.specs.Shifts.{HasDegree}

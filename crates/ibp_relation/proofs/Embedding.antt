@@ -44,7 +44,7 @@ continued (suc n) (x ∷ m) h none =
 back-taken : (n : ℕ) (m : List ℕ) → n ≤ VARIABLES → HasVariables n m → back n (map pos (first_exponents n m)) ≡ m
 unfolding back
 back-taken n m fits h =
-    let long_is : VARIABLES ≡ length m = sym h.nine in
+    let long_is : VARIABLES ≡ length m = sym h.each_variable in
     (λ i. naturals (first_exponents n m) i ++ replicate (long_is i - n) 0)
     ∙ (λ i. first_exponents-take n m (omega (arith, long_is)) i ++ replicate (length m - n) 0) ∙ continued n m (omega (arith, long_is)) h.none_beyond
 

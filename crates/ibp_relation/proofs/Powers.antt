@@ -34,7 +34,7 @@ less_at α m j h = shifted α (first_exponents (length α) m) j ∙ ap (λ x. po
 
 -- the first places are written
 pub record LoweredBelow (α : List ℤ) (m : List ℕ) (i : ℕ) (powers : List ℤ) : Type 0 where
-  pub nine : length powers ≡ VARIABLES
+  pub each_variable : length powers ≡ VARIABLES
   pub written : take i powers ≡ take i (less α m)
 
 -- one more place is written
@@ -44,8 +44,8 @@ lowered_step α m powers i y few h value e =
     let written : y ≡ get_or (less α m) i (pos 0) = value ∙ sym (less_at α m i h) in
     let long : i < length (less α m) = omega (arith, less_long α m) in
     record {
-      nine = rw length-set e.nine;
-      written = take_more_set powers i y (omega (arith, e.nine)) ∙ ap (λ (l : List ℤ). l ++ y ∷ []) e.written ∙ ap (λ z. take i (less α m) ++ z ∷ []) written
+      each_variable = rw length-set e.each_variable;
+      written = take_more_set powers i y (omega (arith, e.each_variable)) ∙ ap (λ (l : List ℤ). l ++ y ∷ []) e.written ∙ ap (λ z. take i (less α m) ++ z ∷ []) written
           ∙ sym (take_more (less α m) i (pos 0) long);
     }
 

@@ -42,13 +42,13 @@ abbrev unit : ℕ → List ℕ
 unit i = set (replicate VARIABLES 0) i 1
 
 unit_sum : (i : ℕ) (k : List ℕ) → i < VARIABLES → length k ≡ VARIABLES → add_exponents (unit i) k ≡ add_exponents (unit_exponents i) k
-unit_sum i k h nine =
-    subst (λ n. add_exponents (set (replicate n 0) i 1) k ≡ add_exponents (unit_exponents i) k) nine (longer_unit i k (omega arith))
+unit_sum i k h each_variable =
+    subst (λ n. add_exponents (set (replicate n 0) i 1) k ≡ add_exponents (unit_exponents i) k) each_variable (longer_unit i k (omega arith))
 
 times_units : (i : ℕ) (f : Polynomial) → i < VARIABLES → AllKeys (λ m. length m ≡ VARIABLES) f
     → times_term add_exponents (unit i, 1) f ≡ times_term add_exponents (unit_exponents i, 1) f
-times_units i [] h nine = refl
-times_units i (t ∷ f) h nine = λ j. (unit_sum i t.0 h nine.0 j, 1 * t.1) ∷ times_units i f h nine.1 j
+times_units i [] h each_variable = refl
+times_units i (t ∷ f) h each_variable = λ j. (unit_sum i t.0 h each_variable.0 j, 1 * t.1) ∷ times_units i f h each_variable.1 j
 
 times_one : (m : List ℕ) (f : Polynomial) → times_term add_exponents (m, 1) f ≡ map_keys (add_exponents m) f
 times_one m [] = refl
@@ -67,29 +67,29 @@ IsMonomial-unit i h =
     record { each_variable = length-set (replicate VARIABLES 0) i 1; bounded = within }
 
 are_monomials : (i : ℕ) (f : Polynomial) → i < VARIABLES → AllKeys (λ m. length m ≡ VARIABLES) f → HasDegree RUN_DEGREE f → AllKeys (AreMonomials (unit i)) f
-are_monomials i [] h nine degree = tt
-are_monomials i (t ∷ f) h nine degree =
+are_monomials i [] h each_variable degree = tt
+are_monomials i (t ∷ f) h each_variable degree =
     let within : sum t.0 ≤ MONO_DEGREE = omega (arith, degree.0) in
-    ((IsMonomial-unit i h, record { each_variable = nine.0; bounded = within }), are_monomials i f h nine.1 degree.1)
+    ((IsMonomial-unit i h, record { each_variable = each_variable.0; bounded = within }), are_monomials i f h each_variable.1 degree.1)
 
 multiply_unit : (i : ℕ) (f : Polynomial) → i < VARIABLES → AllKeys (λ m. length m ≡ VARIABLES) f → multiply ((unit i, 1) ∷ []) f ≡ multiply (variable i) f
-multiply_unit i f h nine = ap (λ (l : Polynomial). l ++ []) (times_units i f h nine)
+multiply_unit i f h each_variable = ap (λ (l : Polynomial). l ++ []) (times_units i f h each_variable)
 
 moved : (i : ℕ) (f : Polynomial) → i < VARIABLES → AllKeys (λ m. length m ≡ VARIABLES) f → multiply (variable i) f ≡ map_keys (add_exponents (unit i)) f
-moved i f h nine = sym (multiply_unit i f h nine) ∙ append-nil (times_term add_exponents (unit i, 1) f) ∙ times_one (unit i) f
+moved i f h each_variable = sym (multiply_unit i f h each_variable) ∙ append-nil (times_term add_exponents (unit i, 1) f) ∙ times_one (unit i) f
 
 IsCanonical-times_variable : (i : ℕ) (f : Polynomial) → i < VARIABLES → AllKeys (λ m. length m ≡ VARIABLES) f → HasDegree RUN_DEGREE f → IsCanonical deg_rev_lex f
     → IsCanonical deg_rev_lex (multiply (variable i) f)
-IsCanonical-times_variable i f h nine degree canonical =
-    IsCanonical-shift (unit i) f (multiply (variable i) f) (moved i f h nine) (are_monomials i f h nine degree) canonical
+IsCanonical-times_variable i f h each_variable degree canonical =
+    IsCanonical-shift (unit i) f (multiply (variable i) f) (moved i f h each_variable) (are_monomials i f h each_variable degree) canonical
 
 -- the product by a polynomial that is the variable
 pub product_by_variable : (i : ℕ) (v p f : Polynomial) → i < VARIABLES → SamePolynomial v ((set (replicate VARIABLES 0) i 1, 1) ∷ []) → AllKeys (λ m. length m ≡ VARIABLES) f → HasDegree RUN_DEGREE f
     → IsCanonical deg_rev_lex f → IsCanonical deg_rev_lex p → SamePolynomial p (multiply v f) → p ≡ multiply (variable i) f
-product_by_variable i v p f h is nine degree canonical p_canonical product =
-    same_polynomials p (multiply (variable i) f) p_canonical (IsCanonical-times_variable i f h nine degree canonical)
+product_by_variable i v p f h is each_variable degree canonical p_canonical product =
+    same_polynomials p (multiply (variable i) f) p_canonical (IsCanonical-times_variable i f h each_variable degree canonical)
     (SameCoefficients-trans product
-    (SameCoefficients-trans (SamePolynomial-multiply is (SameCoefficients-refl same_exponents f)) (SameCoefficients-from_eq (multiply_unit i f h nine))))
+    (SameCoefficients-trans (SamePolynomial-multiply is (SameCoefficients-refl same_exponents f)) (SameCoefficients-from_eq (multiply_unit i f h each_variable))))
 
 -- the variable has the degree 1
 pub variable_degree : (i : ℕ) (v : Polynomial) → i < VARIABLES → IsCanonical deg_rev_lex v → SamePolynomial v ((set (replicate VARIABLES 0) i 1, 1) ∷ []) → degree_of v ≤ 1
@@ -102,8 +102,8 @@ HasDegree-moved m [] h degree = tt
 HasDegree-moved m (t ∷ f) h degree = (omega (arith, sum-add_exponents m t.0, degree.0), HasDegree-moved m f h degree.1)
 
 pub HasDegree-times_variable : (i : ℕ) (f : Polynomial) → i < VARIABLES → AllKeys (λ m. length m ≡ VARIABLES) f → HasDegree RUN_DEGREE f → HasDegree MONO_DEGREE (multiply (variable i) f)
-HasDegree-times_variable i f h nine degree =
-    subst (HasDegree MONO_DEGREE) (sym (moved i f h nine)) (HasDegree-moved (unit i) f (unit_degree i h) degree)
+HasDegree-times_variable i f h each_variable degree =
+    subst (HasDegree MONO_DEGREE) (sym (moved i f h each_variable)) (HasDegree-moved (unit i) f (unit_degree i h) degree)
 
 -- ---- all of them
 
@@ -134,20 +134,20 @@ pub length-unstripped : (i : ℕ) (in_sector : ℕ → Bool) (c : List Polynomia
 length-unstripped i in_sector [] = refl
 length-unstripped i in_sector (f ∷ c) = ap suc (length-unstripped (suc i) in_sector c)
 
-pub nine_exponents : (n degree : ℕ) (f : Polynomial) → IsPolynomial n degree f → AllKeys (λ m. length m ≡ VARIABLES) f
-nine_exponents n degree f h = AllKeys-weaker (HasVariables n) (λ m. length m ≡ VARIABLES) (λ m v. v.nine) f h.variables
+pub full_exponents : (n degree : ℕ) (f : Polynomial) → IsPolynomial n degree f → AllKeys (λ m. length m ≡ VARIABLES) f
+full_exponents n degree f h = AllKeys-weaker (HasVariables n) (λ m. length m ≡ VARIABLES) (λ m v. v.each_variable) f h.variables
 
 with_factor_degree : (in_sector : ℕ → Bool) (n i : ℕ) (f : Polynomial) → i < VARIABLES → IsPolynomial n RUN_DEGREE f → HasDegree MONO_DEGREE (with_factor in_sector i f)
 with_factor_degree in_sector n i f h shape =
     elim (in_sector i) as (λ v. HasDegree MONO_DEGREE (if v then multiply (variable i) f else f)) [
-      | true ↦ HasDegree-times_variable i f h (nine_exponents n RUN_DEGREE f shape) shape.degree_within
+      | true ↦ HasDegree-times_variable i f h (full_exponents n RUN_DEGREE f shape) shape.degree_within
       | false ↦ HasDegree-more RUN_DEGREE MONO_DEGREE f (omega arith) shape.degree_within
     ]
 
 with_factor_canonical : (in_sector : ℕ → Bool) (n i : ℕ) (f : Polynomial) → i < VARIABLES → IsPolynomial n RUN_DEGREE f → IsCanonical deg_rev_lex (with_factor in_sector i f)
 with_factor_canonical in_sector n i f h shape =
     elim (in_sector i) as (λ v. IsCanonical deg_rev_lex (if v then multiply (variable i) f else f)) [
-      | true ↦ IsCanonical-times_variable i f h (nine_exponents n RUN_DEGREE f shape) shape.degree_within shape.canonical
+      | true ↦ IsCanonical-times_variable i f h (full_exponents n RUN_DEGREE f shape) shape.degree_within shape.canonical
       | false ↦ shape.canonical
     ]
 

@@ -49,7 +49,7 @@ fn with_factor(alloc: Global, i: u8, poly: &Poly, seed: &Integral) -> Result<Pol
 fn times_variable(alloc: Global, i: u8, poly: &Poly) -> Result<Poly, NoMemory>
     requires place { (1 ≤ i) × (i ≤ VARIABLES) }
     requires canonical { IsCanonical deg_rev_lex poly.now }
-    requires nine { AllKeys (λ m. length m ≡ VARIABLES) poly.now }
+    requires each_variable { AllKeys (λ m. length m ≡ VARIABLES) poly.now }
     requires degree { HasDegree RUN_DEGREE poly.now }
     ensures { IfOk result (λ p. p ≡ multiply (variable (i - 1)) poly.now) }
 {

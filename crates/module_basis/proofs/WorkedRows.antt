@@ -42,8 +42,8 @@ third_remainder : divide zero_dominates RUN_DEGREE (g1 ∷ g2 ∷ g3 ∷ g4 ∷ 
 unfolding g1 g2 g3 g4 g5
 third_remainder = refl
 
--- z1^250 e_0 by z1 e_0 + z2^2 e_1 is over-degree
-over : divide zero_dominates RUN_DEGREE ((((0, 1 ∷ 0 ∷ []), 1) ∷ ((1, 0 ∷ 2 ∷ []), 1) ∷ []) ∷ []) 2 (((0, 250 ∷ 0 ∷ []), 1) ∷ []) ≡ Some OverDegree
+-- z1^1000 e_0 by z1 e_0 + z2^2 e_1 is over-degree
+over : divide zero_dominates RUN_DEGREE ((((0, 1 ∷ 0 ∷ []), 1) ∷ ((1, 0 ∷ 2 ∷ []), 1) ∷ []) ∷ []) 2 (((0, RUN_DEGREE ∷ 0 ∷ []), 1) ∷ []) ≡ Some OverDegree
 over = refl
 
 -- the pair of the second and third element comes last, by its second number

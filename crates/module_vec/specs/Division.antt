@@ -13,7 +13,7 @@
 -- subtracted in the fitting multiple, or the division is over-degree where this multiple has a term of degree
 -- above the limit. Where there is no such vector, the lead moves to the remainder.
 -- Source: the division algorithm for free modules and S-vectors as in Using Algebraic Geometry of Cox, Little and O'Shea.
-use Rattle.std.specs.Prelude.{◌≡◌, ◌≢◌, ℕ, zero, suc, ◌+◌, Bool, false, ◌||◌, if◌then◌else◌, nat_lt, sum, Option, Some, None, List, [], ◌∷◌, ◌++◌}
+use Rattle.std.specs.Prelude.{◌≡◌, ◌≢◌, ℕ, zero, suc, Bool, false, ◌||◌, if◌then◌else◌, nat_lt, sum, Option, Some, None, List, [], ◌∷◌, ◌++◌}
 use Rattle.std.specs.declared.cmp.Ordering.{Ordering}
 use Rattle.std.specs.declared.cmp.Ordering.TheVariants.{Less}
 use Rattle.ibp_field.specs.Arithmetic.{neg_mod, inverse_mod}

@@ -6,4 +6,4 @@ pub mod laws;
 mod vector;
 
 pub use fault::VectorFault;
-pub use vector::Vector;
+pub use vector::{Vector, times};

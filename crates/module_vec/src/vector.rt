@@ -69,6 +69,18 @@ impl<O: TermOrder> Vector<O> {
         })
     }
 
+    /// The vector of terms that stand greatest first.
+    pub fn from_descending(terms: Vec<(Term, Residue)>) -> Vector<O>
+        requires vector { IsVector O.order VARIABLES terms.items }
+        requires within { AllKeys (λ t. sum t.1 ≤ RUN_DEGREE) terms.items }
+        ensures { result ≡ terms.items }
+    {
+        Vector {
+            terms,
+            order: PhantomData,
+        }
+    }
+
     /// The same vector.
     pub fn copy(&self, alloc: Global) -> Result<Vector<O>, NoMemory>
         ensures { IfOk result (λ v. v ≡ self.now) }
@@ -212,8 +224,8 @@ fn degree_of(term: &Term) -> u16
     term.monomial.degree()
 }
 
-// The product of a term with a monomial, where its degree is within the limit.
-fn times(term: &Term, by: &Monomial) -> Term
+/// The product of a term with a monomial, where its degree is within the limit.
+pub fn times(term: &Term, by: &Monomial) -> Term
     requires { sum term.now.1 + sum by.now ≤ MONO_DEGREE }
     ensures { result ≡ multiply_term by.now term.now }
 {

@@ -1,4 +1,5 @@
 pub mod Monomial
+pub mod PartialSums
 pub mod Term
 pub mod MonomialOrder
 pub mod TermOrder

@@ -1,13 +1,8 @@
 -- What the type `Monomial` keeps of its exponents: there is one for each variable, and their sum has a limit.
 -- Source: monomials as in Ideals, Varieties, and Algorithms of Cox, Little and O'Shea, here within limits.
-use Rattle.std.proofs.Common.{sym}
 use Rattle.std.specs.Prelude.{◌≡◌, ℕ, ◌≤◌, length, sum, List}
 use Rattle.mono_order.specs.declared.limits.TheConstants.{VARIABLES, MONO_DEGREE}
 
 pub record IsMonomial (m : List ℕ) : Type 0 where
   pub each_variable : length m ≡ VARIABLES
   pub bounded : sum m ≤ MONO_DEGREE
-
--- the degree that is kept is that of the exponents
-pub stored_degree : (degree : ℕ) (m : List ℕ) → degree ≡ sum m → sum m ≡ degree
-stored_degree degree m e = sym e

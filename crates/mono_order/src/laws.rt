@@ -4,7 +4,7 @@ ghost use Rattle.mono_order.specs.declared.limits.TheConstants.{VARIABLES, MONO_
 
 /// The limits in numbers.
 pub fn limits()
-    ensures variables { VARIABLES ≡ 9 }
-    ensures degree { MONO_DEGREE ≡ 300 }
-    ensures degree_of_a_run { RUN_DEGREE ≡ 250 }
+    ensures variables { VARIABLES ≡ 12 }
+    ensures degree { MONO_DEGREE ≡ 1050 }
+    ensures degree_of_a_run { RUN_DEGREE ≡ 1000 }
 {}

@@ -6,6 +6,7 @@ mod limits;
 mod monomial;
 mod order;
 mod term;
+mod words;
 
 pub use limits::{MONO_DEGREE, RUN_DEGREE, VARIABLES};
 pub use monomial::{DegRevLex, Monomial, MonomialOrder};

@@ -1,8 +1,8 @@
 /// The number of variables of a monomial.
-pub const VARIABLES: usize = 9;
+pub const VARIABLES: usize = 12;
 
 /// The greatest total degree of a monomial.
-pub const MONO_DEGREE: u16 = 300;
+pub const MONO_DEGREE: u16 = 1050;
 
 /// The greatest total degree of a term of a module vector, and of each least common multiple in a run.
-pub const RUN_DEGREE: u16 = 250;
+pub const RUN_DEGREE: u16 = 1000;

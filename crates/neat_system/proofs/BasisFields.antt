@@ -13,6 +13,7 @@ use Rattle.ibp_algebra.proofs.SumLaws.{SameCoefficients-sym, SameCoefficients-tr
 use Rattle.ibp_algebra.proofs.Terms.{CountingKeys, coefficient-CountingKeys, AllKeys-canonical}
 use Rattle.ibp_algebra.proofs.Weights.{unit_weight, weighted_sum-append, weighted_sum-map_keys, weighted_sum-ext}
 use Rattle.mono_order.proofs.Terms.{terms_decide}
+use Rattle.mono_order.specs.declared.limits.TheConstants.{VARIABLES}
 use Rattle.mono_order.specs.BlockOrders.{over_position_laws}
 use Rattle.mono_order.specs.Term.{Term, same_term, IsTerm}
 use Rattle.module_vec.specs.ModuleVector.{ModuleVector, SameVector}
@@ -78,38 +79,38 @@ all_counting : (P : Term → Type 0) (v : ModuleVector) → AllKeys P v → Coun
 all_counting P [] h = tt
 all_counting P (t ∷ v) h = (λ _. h.0, all_counting P v h.1)
 
-module _ (f : StrippedField) (terms : AllKeys (IsTerm 9) (field_vector f)) where
+module _ (f : StrippedField) (terms : AllKeys (IsTerm VARIABLES) (field_vector f)) where
   abbrev polynomials : List Polynomial
   polynomials = f.c ++ f.b ∷ []
 
   vector_is : SameVector (field_vector f) (vector_of 1 polynomials)
-  vector_is = SameVector-normal (over_position_laws 9) (field_vector f) (vector_of 1 polynomials) refl
+  vector_is = SameVector-normal (over_position_laws VARIABLES) (field_vector f) (vector_of 1 polynomials) refl
 
-  nine_at : (i : ℕ) → IsCanonical deg_rev_lex (get_or polynomials i []) → IsPolynomialIn 9 (get_or polynomials i [])
-  nine_at i canonical =
-      AllKeys-canonical same_exponents exponents_decide deg_rev_lex deg_rev_lex_total (λ m. length m ≡ 9) (get_or polynomials i []) canonical
+  of_all_variables : (i : ℕ) → IsCanonical deg_rev_lex (get_or polynomials i []) → IsPolynomialIn VARIABLES (get_or polynomials i [])
+  of_all_variables i canonical =
+      AllKeys-canonical same_exponents exponents_decide deg_rev_lex deg_rev_lex_total (λ m. length m ≡ VARIABLES) (get_or polynomials i []) canonical
       (λ m counts.
-      coefficient-CountingKeys same_term terms_decide (λ (t : Term). length t.1 ≡ 9) (field_vector f)
-      (all_counting (λ (t : Term). length t.1 ≡ 9) (field_vector f) (AllKeys-weaker (IsTerm 9) (λ (t : Term). length t.1 ≡ 9) (λ t h. h.exponents) (field_vector f) terms))
+      coefficient-CountingKeys same_term terms_decide (λ (t : Term). length t.1 ≡ VARIABLES) (field_vector f)
+      (all_counting (λ (t : Term). length t.1 ≡ VARIABLES) (field_vector f) (AllKeys-weaker (IsTerm VARIABLES) (λ (t : Term). length t.1 ≡ VARIABLES) (λ t h. h.exponents) (field_vector f) terms))
       (1 + i, m)
       (λ none. counts (sym (vector_is.same_at (1 + i, m) ∙ ap (λ k. k % 2147483647) (coefficient_at_component i m polynomials)) ∙ none)))
 
-  all_nine : (n : ℕ) → IsCanonicalField n f → AllByRecursion (IsPolynomialIn 9) polynomials
-  all_nine n h =
+  each_of_all_variables : (n : ℕ) → IsCanonicalField n f → AllByRecursion (IsPolynomialIn VARIABLES) polynomials
+  each_of_all_variables n h =
       let canonical : All (IsCanonical deg_rev_lex) polynomials =
       All-from_recursion (IsCanonical deg_rev_lex) polynomials (with_last (IsCanonical deg_rev_lex) f.c (recursion_from_All (IsCanonical deg_rev_lex) f.c h.polynomials) f.b h.factor)
       in
-      recursion_from_All (IsPolynomialIn 9) polynomials (All-from_get_or (IsPolynomialIn 9) polynomials [] (λ i below. nine_at i (canonical i [] below)))
+      recursion_from_All (IsPolynomialIn VARIABLES) polynomials (All-from_get_or (IsPolynomialIn VARIABLES) polynomials [] (λ i below. of_all_variables i (canonical i [] below)))
 
-module _ (p : Polynomial) (n sector : ℕ) (few : n ≤ 9) (shape : AllKeys (HasVariables n) p) where
+module _ (p : Polynomial) (n sector : ℕ) (few : n ≤ VARIABLES) (shape : AllKeys (HasVariables n) p) where
   -- a canonical field is in the module where its vector is that of a member
-  member_field : (f : StrippedField) → IsCanonicalField n f → AllKeys (IsTerm 9) (field_vector f) → IsSectorMember p n sector (field_vector f) → IsInSectorModule p sector f
+  member_field : (f : StrippedField) → IsCanonicalField n f → AllKeys (IsTerm VARIABLES) (field_vector f) → IsSectorMember p n sector (field_vector f) → IsInSectorModule p sector f
   member_field f canonical terms member =
       let s = syzygy_from_member p n sector few shape (field_vector f) member in
-      let own : IsSyzygy 9 (sector_factors p n sector) (vector_of 1 (f.c ++ f.b ∷ [])) =
+      let own : IsSyzygy VARIABLES (sector_factors p n sector) (vector_of 1 (f.c ++ f.b ∷ [])) =
       record { terms = s.terms; in_range = s.in_range; same = SameCoefficients-trans (SameCoefficients-sym (vector_is f terms)) s.same; vanishes = s.vanishes }
       in
-      (IsInModule-syzygy 9 p f.b (in_sector sector) n f.c canonical.count (all_nine f terms n canonical)).1 own
+      (IsInModule-syzygy VARIABLES p f.b (in_sector sector) n f.c canonical.count (each_of_all_variables f terms n canonical)).1 own
 
   pub basis_member : (fields : List StrippedField) → IsSectorBasis p n sector fields → (i : ℕ) (d : StrippedField) → i < length fields
       → IsInSectorModule p sector (get_or fields i d) × (length (get_or fields i d).c ≡ n)
@@ -117,7 +118,7 @@ module _ (p : Polynomial) (n sector : ℕ) (few : n ≤ 9) (shape : AllKeys (Has
       let f = get_or fields i d in
       let there : i < length (map field_vector fields) = omega (arith, length-map fields field_vector) in
       let same : get_or (map field_vector fields) i [] ≡ field_vector f = get_or-map field_vector fields i d [] below in
-      let terms : AllKeys (IsTerm 9) (field_vector f) = subst (λ (v : ModuleVector). AllKeys (IsTerm 9) v) same (h.reduced.monic i [] there).terms in
+      let terms : AllKeys (IsTerm VARIABLES) (field_vector f) = subst (λ (v : ModuleVector). AllKeys (IsTerm VARIABLES) v) same (h.reduced.monic i [] there).terms in
       let member : IsSectorMember p n sector (field_vector f) = subst (λ (v : ModuleVector). IsSectorMember p n sector v) same (h.reduced.basis.members i [] there) in
       let canonical : IsCanonicalField n f = h.canonical i d below in
       (member_field f canonical terms member, canonical.count)

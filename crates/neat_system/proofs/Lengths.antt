@@ -6,6 +6,8 @@ use Rattle.std.proofs.lemmas.List.FromFn.{length-map-range_with_len}
 use Rattle.std.proofs.Math.Pow.{pow_mono}
 use Rattle.sector_lattice.specs.Sectors.{sector_of}
 use Rattle.sector_lattice.specs.Orders.{sector_below}
+use Rattle.mono_order.specs.declared.limits.TheConstants.{VARIABLES}
+use Rattle.family.specs.declared.limits.TheConstants.{CANDIDATE_LIMIT}
 use Rattle.family.specs.Within.{DataWithin}
 use Rattle.family.specs.FamilyData.{FamilyData}
 use Rattle.family.specs.declared.parts.StrippedField.{StrippedField}
@@ -53,23 +55,20 @@ module _ (family : FamilyData) where
       ∙ (λ i. as_many piece.targets work all.0.is_work i + labels_match pieces works all.1 i)
       ∙ sym (length-append work.candidates (all_candidates works))
 
-  pub few_candidates : DataWithin family → (pieces : List ResultValue) (works : List SectorWork) → AllZip (IsWorkOf family) pieces works → length (all_candidates works) ≤ 20000 * length pieces
+  pub few_candidates : DataWithin family → (pieces : List ResultValue) (works : List SectorWork) → AllZip (IsWorkOf family) pieces works → length (all_candidates works) ≤ CANDIDATE_LIMIT * length pieces
   few_candidates within [] [] all = omega arith
   few_candidates within [] (work ∷ works) all = absurd all
   few_candidates within (piece ∷ pieces) [] all = absurd all
   few_candidates within (piece ∷ pieces) (work ∷ works) all =
       let here : length work.candidates ≤ family.budget.candidates = few_of_work piece.targets work all.0.is_work in
-      let budget : family.budget.candidates ≤ 20000 = within.budget_within.candidates in
-      let rest : length (all_candidates works) ≤ 20000 * length pieces = few_candidates within pieces works all.1 in
+      let budget : family.budget.candidates ≤ CANDIDATE_LIMIT = within.budget_within.candidates in
+      let rest : length (all_candidates works) ≤ CANDIDATE_LIMIT * length pieces = few_candidates within pieces works all.1 in
       let joined : length (work.candidates ++ all_candidates works) ≡ length work.candidates + length (all_candidates works) = length-append work.candidates (all_candidates works) in
       omega (arith, here, budget, rest, joined)
 
-  -- a family of at most nine variables has at most 512 sectors
-  pub few_pieces : DataWithin family → (count : ℕ) → count ≤ 2 ^ family.n → count ≤ 512
-  few_pieces within count few =
-      let most : 2 ^ family.n ≤ 2 ^ 9 = pow_mono within.few_variables in
-      let nine : 2 ^ 9 ≡ 512 = refl in
-      omega (arith, few, most, nine)
+  -- a family has at most as many sectors as there are of all variables
+  pub few_pieces : DataWithin family → (count : ℕ) → count ≤ 2 ^ family.n → count ≤ 2 ^ VARIABLES
+  few_pieces within count few = let most : 2 ^ family.n ≤ 2 ^ VARIABLES = pow_mono within.few_variables in omega (arith, few, most)
 
 -- a sector that targets fit is below 2 ^ n
 pub sector_fits : (family : FamilyData) (sector : ℕ) (targets : List Integral) → FitsTargets family sector targets → sector < 2 ^ family.n
@@ -82,9 +81,9 @@ sector_fits family sector (target ∷ targets) fits =
 
 -- what a piece comes to has few fields at few seeds
 pub few_in_all : (family : FamilyData) → DataWithin family → (piece : ResultValue) (work : SectorWork) → IsWorkOf family piece work → (fields : List StrippedField) (seeds : List Integral)
-    → fields ≡ work.fields → seeds ≡ work.seeds → length fields * length seeds ≤ 20000
+    → fields ≡ work.fields → seeds ≡ work.seeds → length fields * length seeds ≤ CANDIDATE_LIMIT
 few_in_all family within piece work is fields seeds same_fields same_seeds =
     let counts : length fields * length seeds ≡ length work.fields * length work.seeds = λ i. length (same_fields i) * length (same_seeds i) in
     let few : length work.fields * length work.seeds ≤ family.budget.candidates = within_budget family piece.targets work is.is_work in
-    let budget : family.budget.candidates ≤ 20000 = within.budget_within.candidates in
+    let budget : family.budget.candidates ≤ CANDIDATE_LIMIT = within.budget_within.candidates in
     omega (arith, counts, few, budget)

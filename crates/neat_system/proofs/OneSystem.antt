@@ -72,6 +72,7 @@ family_with family within = record {
   targets = family.targets;
   zero = family.zero;
   bounds = family.bounds;
+  caps = family.caps;
   budget = family.budget;
   probe = family.probe;
   limits = within;

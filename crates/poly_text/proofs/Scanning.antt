@@ -50,7 +50,7 @@ whole_stops number digit i digits read below item nothing none is =
     let parts : drop i digits ≡ digit ∷ drop (suc i) digits = drop-cons digits i 0 below ∙ ap (λ d. d ∷ drop (suc i) digits) (sym item) in
     nothing ∙ whole_over number digit (drop (suc i) digits) (whole_value digits) none (sym is ∙ ap (fold digit_step number) parts)
 
--- a name of more than two bytes is no variable of nine
+-- the names of variables
 first_passes : (x y : Bool) → (x && y) ≡ true → x ≡ true
 first_passes true y e = refl
 first_passes false y e = absurd (cc)
@@ -58,10 +58,6 @@ first_passes false y e = absurd (cc)
 second_passes : (x y : Bool) → (x && y) ≡ true → y ≡ true
 second_passes true y e = e
 second_passes false y e = absurd (cc)
-
-false_from : (b : Bool) → ¬ (b ≡ true) → b ≡ false
-false_from true h = absurd (h refl)
-false_from false h = refl
 
 digit_from : (d : ℕ) → is_ascii_digit d ≡ true → 48 ≤ d
 digit_from d e = grind (arith, leb_tells)
@@ -71,40 +67,74 @@ chosen_none true y v h = refl
 chosen_none false true v h = absurd (let e = h refl in cc)
 chosen_none false false v h = refl
 
-pub variable_long : (n : ℕ) (word : List ℕ) → n ≤ VARIABLES → is_variable_name word ≡ true → (length word ≡ 2 → ⊥) → None ≡ named_variable n word
-variable_long n [] few form other = refl
-variable_long n (b ∷ []) few form other = refl
-variable_long n (b ∷ d ∷ []) few form other = absurd (other refl)
-variable_long n (b ∷ d ∷ e ∷ ds) few form other =
-    chosen_none (d == 48) (nat_le (whole_value (d ∷ e ∷ ds)) n) (Named.Variable (variable_exponents (whole_value (d ∷ e ∷ ds)))) (λ apart.
-    let digits : list_all is_ascii_digit (d ∷ e ∷ ds) ≡ true = second_passes ((b == 122) && not (length (d ∷ e ∷ ds) == 0)) (list_all is_ascii_digit (d ∷ e ∷ ds)) form in
-    let first : 48 ≤ d = digit_from d (first_passes (is_ascii_digit d) (list_all is_ascii_digit (e ∷ ds)) digits) in
-    let not_zero : ¬ (d ≡ 48) = not_from_Decides _ (Decides-eqb d 48) apart in
-    lt-leb (whole_value (d ∷ e ∷ ds)) n (omega (arith, fold_grows (10 * (10 * 0 + (d - 48)) + (e - 48)) ds)))
+pub variable_longer : (word : List ℕ) → is_variable_name word ≡ true → 1 < length word
+variable_longer [] form = absurd (cc)
+variable_longer (b ∷ []) form = absurd (let none = second_passes (b == 122) false (first_passes ((b == 122) && false) true form) in cc)
+variable_longer (b ∷ d ∷ ds) form = omega arith
 
-pub variable_found : (n i : ℕ) (word m : List ℕ) → is_variable_name word ≡ true → length word ≡ 2 → i ≡ get_or word 1 0 - 48 → 0 < i → i ≤ n → m ≡ variable_exponents i
-    → Some (Named.Variable m) ≡ named_variable n word
-variable_found n i [] m form two is positive within made = absurd (omega (arith, two))
-variable_found n i (b ∷ []) m form two is positive within made = absurd (omega (arith, two))
-variable_found n i (b ∷ d ∷ []) m form two is positive within made =
-    let value : i ≡ whole_value (d ∷ []) = omega (arith, is) in
-    let apart : ¬ (d ≡ 48) = λ e. omega (arith, is, e) in
+-- its number is not 0, unless it begins with the digit 0
+first_digit : (b d : ℕ) (ds : List ℕ) → is_variable_name (b ∷ d ∷ ds) ≡ true → ¬ (d ≡ 48) → 0 < d - 48
+first_digit b d ds form apart =
+    let digits : list_all is_ascii_digit (d ∷ ds) ≡ true = second_passes ((b == 122) && not (length (d ∷ ds) == 0)) (list_all is_ascii_digit (d ∷ ds)) form in
+    let first : 48 ≤ d = digit_from d (first_passes (is_ascii_digit d) (list_all is_ascii_digit ds) digits) in
+    omega (arith, apart)
+
+pub variable_positive : (word : List ℕ) → is_variable_name word ≡ true → ¬ (get_or word 1 0 ≡ 48) → 0 < whole_value (drop 1 word)
+variable_positive [] form apart = absurd (cc)
+variable_positive (b ∷ []) form apart = absurd (omega (arith, variable_longer (b ∷ []) form))
+variable_positive (b ∷ d ∷ ds) form apart = omega (arith, first_digit b d ds form apart, fold_grows (10 * 0 + (d - 48)) ds)
+
+pub variable_zero : (n : ℕ) (word : List ℕ) → get_or word 1 0 ≡ 48 → None ≡ named_variable n word
+variable_zero n [] is = refl
+variable_zero n (b ∷ []) is = refl
+variable_zero n (b ∷ d ∷ ds) is =
+    chosen_none (d == 48) (nat_le (whole_value (d ∷ ds)) n) (Named.Variable (variable_exponents (whole_value (d ∷ ds))))
+    (λ apart. absurd (not_from_Decides _ (Decides-eqb d 48) apart is))
+
+-- a name whose number is above n is no variable
+pub variable_over : (n : ℕ) (word : List ℕ) → n < whole_value (drop 1 word) → None ≡ named_variable n word
+variable_over n [] over = refl
+variable_over n (b ∷ []) over = refl
+variable_over n (b ∷ d ∷ ds) over =
+    chosen_none (d == 48) (nat_le (whole_value (d ∷ ds)) n) (Named.Variable (variable_exponents (whole_value (d ∷ ds)))) (λ _. lt-leb (whole_value (d ∷ ds)) n over)
+
+pub variable_wide : (n : ℕ) (word : List ℕ) (read : Option ℕ) → n ≤ VARIABLES → read ≡ None → read ≡ limited (whole_value (drop 1 word)) → None ≡ named_variable n word
+variable_wide n word read few none is =
+    let wide = none_over (whole_value (drop 1 word)) (nat_lt (whole_value (drop 1 word)) (2 ^ 128)) refl (sym none ∙ is) in
+    variable_over n word (omega arith)
+
+-- so is a name of more than three bytes
+pub variable_long : (n : ℕ) (word : List ℕ) → n ≤ VARIABLES → is_variable_name word ≡ true → 3 < length word → None ≡ named_variable n word
+variable_long n [] few form long = refl
+variable_long n (b ∷ []) few form long = refl
+variable_long n (b ∷ d ∷ []) few form long = absurd (omega (arith, long))
+variable_long n (b ∷ d ∷ e ∷ []) few form long = absurd (omega (arith, long))
+variable_long n (b ∷ d ∷ e ∷ g ∷ ds) few form long =
+    chosen_none (d == 48) (nat_le (whole_value (d ∷ e ∷ g ∷ ds)) n) (Named.Variable (variable_exponents (whole_value (d ∷ e ∷ g ∷ ds)))) (λ apart.
+    let positive = first_digit b d (e ∷ g ∷ ds) form (not_from_Decides _ (Decides-eqb d 48) apart) in
+    lt-leb (whole_value (d ∷ e ∷ g ∷ ds)) n (omega (arith, fold_grows (10 * (10 * (10 * 0 + (d - 48)) + (e - 48)) + (g - 48)) ds)))
+
+limited_value : (k i : ℕ) (b : Bool) → Some i ≡ cond b (Some k) None → i ≡ k
+limited_value k i true e = cc
+limited_value k i false e = absurd (cc)
+
+pub limited_is : (k i : ℕ) → Some i ≡ limited k → i ≡ k
+limited_is k i is = limited_value k i (nat_lt k (2 ^ 128)) is
+
+pub variable_found : (n i : ℕ) (word m : List ℕ) (read : Option ℕ) → is_variable_name word ≡ true → ¬ (get_or word 1 0 ≡ 48) → read ≡ Some i → read ≡ limited (whole_value (drop 1 word)) → i ≤ n
+    → m ≡ variable_exponents i → Some (Named.Variable m) ≡ named_variable n word
+variable_found n i [] m read form apart some is within made = absurd (cc)
+variable_found n i (b ∷ []) m read form apart some is within made = absurd (omega (arith, variable_longer (b ∷ []) form))
+variable_found n i (b ∷ d ∷ ds) m read form apart some is within made =
+    let value : i ≡ whole_value (d ∷ ds) = limited_is (whole_value (d ∷ ds)) i (sym some ∙ is) in
     let not_zero : (d == 48) ≡ false = false_from (d == 48) (λ e. apart ((Decides-eqb d 48).0 e)) in
-    let test : nat_le (whole_value (d ∷ [])) n ≡ true = le-leb (whole_value (d ∷ [])) n (omega (arith, value)) in
+    let test : nat_le (whole_value (d ∷ ds)) n ≡ true = le-leb (whole_value (d ∷ ds)) n (omega (arith, value)) in
     ap (λ (k : List ℕ). Some (Named.Variable k)) (made ∙ ap variable_exponents value)
-    ∙ ap (λ c. cond c (Some (Named.Variable (variable_exponents (whole_value (d ∷ []))))) None) (sym (and_true (not (d == 48)) (nat_le (whole_value (d ∷ [])) n) (ap not not_zero) test))
-variable_found n i (b ∷ d ∷ e ∷ ds) m form two is positive within made = absurd (omega (arith, two))
-
-pub variable_missing : (n i : ℕ) (word : List ℕ) → n ≤ VARIABLES → is_variable_name word ≡ true → i ≡ get_or word 1 0 - 48 → (0 < i → n < i) → None ≡ named_variable n word
-variable_missing n i [] few form is outside = refl
-variable_missing n i (b ∷ []) few form is outside = refl
-variable_missing n i (b ∷ d ∷ []) few form is outside =
-    chosen_none (d == 48) (nat_le (whole_value (d ∷ [])) n) (Named.Variable (variable_exponents (whole_value (d ∷ [])))) (λ apart.
-    let digits : list_all is_ascii_digit (d ∷ []) ≡ true = second_passes ((b == 122) && not (length (d ∷ []) == 0)) (list_all is_ascii_digit (d ∷ [])) form in
-    let first : 48 ≤ d = digit_from d (first_passes (is_ascii_digit d) true digits) in
-    let not_zero : ¬ (d ≡ 48) = not_from_Decides _ (Decides-eqb d 48) apart in
-    lt-leb (whole_value (d ∷ [])) n (omega (arith, is, outside (omega (arith, is)))))
-variable_missing n i (b ∷ d ∷ e ∷ ds) few form is outside = variable_long n (b ∷ d ∷ e ∷ ds) few form (λ two. omega (arith, two))
+    ∙ ap (λ c. cond c (Some (Named.Variable (variable_exponents (whole_value (d ∷ ds))))) None) (sym (and_true (not (d == 48)) (nat_le (whole_value (d ∷ ds)) n) (ap not not_zero) test))
+  where
+    false_from : (b : Bool) → ¬ (b ≡ true) → b ≡ false
+    false_from true h = absurd (h refl)
+    false_from false h = refl
 
 -- the tokens behind the bytes that belong to a token
 tokens_skip : (k place : ℕ) (bytes : List ℕ) → tokens_from k place bytes ≡ tokens_from 0 (place + k) (drop k bytes)

@@ -150,7 +150,7 @@ long_unknown n number word few long = ap is_some (sym (value-named n number word
   where
     go : (x y : Bool) → is_variable_name word ≡ x → nat_le (length word) NAME_LIMIT ≡ y → named n number word ≡ None
     go true y e f = ap (λ c. cond c (named_variable n word) (cond (nat_le (length word) NAME_LIMIT) (option_map (λ v. Named.Number v) (number word)) None)) e
-        ∙ sym (variable_long n word few e (λ two. omega (arith, two)))
+        ∙ sym (variable_long n word few e (omega (arith, long)))
     go false true e f = absurd (omega (arith, leb-true (length word) NAME_LIMIT f))
     go false false e f = ap (λ c. cond c (named_variable n word) (cond (nat_le (length word) NAME_LIMIT) (option_map (λ v. Named.Number v) (number word)) None)) e
         ∙ ap (λ c. cond c (option_map (λ v. Named.Number v) (number word)) None) f

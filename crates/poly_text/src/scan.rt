@@ -131,15 +131,14 @@ fn named_variable(n: u8, word: &[u8]) -> Option<Named>
     requires form { is_variable_name word.now ≡ true }
     ensures { result ≡ named_variable n word.now }
 {
-    if word.len() != 2 {
+    if word[1] == b'0' {
         return None;
     }
-    let i = word[1].saturating_sub(b'0');
-    if i > 0 && i <= n {
-        Some(Named::Variable(Monomial::variable(i)))
-    } else {
-        None
+    let i = whole(&word[1..])?;
+    if i > n as u128 {
+        return None;
     }
+    Some(Named::Variable(Monomial::variable(i as u8)))
 }
 
 // What a name stands for.

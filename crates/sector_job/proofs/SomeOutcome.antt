@@ -1,11 +1,11 @@
 -- Each sector has an outcome for each list of targets that fits it.
-use Rattle.std.proofs.Common.{◌≡◌, inl, inr, ℕ, suc, ◌+◌, ◌-◌, ◌*◌, ◌^◌, ◌<◌, ◌≤◌, List, [], ◌∷◌, map, length, refl, sym, ◌∙◌, ap, subst, arith}
+use Rattle.std.proofs.Common.{◌≡◌, inl, inr, ℕ, ◌+◌, ◌-◌, ◌*◌, ◌^◌, ◌<◌, ◌≤◌, List, [], ◌∷◌, map, length, refl, sym, ◌∙◌, ap, subst, arith}
 use Rattle.std.specs.Prelude.{Contains}
-use Rattle.std.specs.List.{All, AllZip, flat_map, range_with_len}
+use Rattle.std.specs.List.{All, flat_map, range_with_len}
 use Rattle.std.proofs.lemmas.Bool.{cases_lt}
 use Rattle.std.proofs.lemmas.List.Elements.{Contains-append_cases}
 use Rattle.std.proofs.lemmas.List.FromFn.{length-range_with_len, get_or-range_with_len}
-use Rattle.ibp_base.proofs.Members.{in_cases, in_head, in_tail, in_none, from_map}
+use Rattle.ibp_base.proofs.Members.{in_head, in_tail, in_none, from_map}
 use Rattle.ibp_base.proofs.Ascending.{sorted_none}
 use Rattle.ibp_base.proofs.Zips.{some_zip}
 use Rattle.ibp_relation.proofs.SeedSectors.{module_at}
@@ -100,8 +100,8 @@ module _ (family : FamilyData) (within : DataWithin family) (sector : ℕ) (targ
       → (outcome : Outcome) × IsOutcome family sector targets outcome
   of_basis fields basis members =
       let below : sector < 2 ^ family.n = fits_below family sector targets fits in
-      let dots = dots_bound family targets in
-      let rank = rank_bound family targets in
+      let dots = dots_bound family sector targets in
+      let rank = rank_bound family sector targets in
       let seeds = layers family.n sector dots rank in
       let are_seeds : AreSeedsFor family sector targets seeds = layers_are_seeds family.n sector dots rank below in
       elim (cases_lt family.budget.candidates (length fields * length seeds)) [

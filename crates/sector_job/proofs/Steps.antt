@@ -3,6 +3,7 @@ use Rattle.std.proofs.Common.{◌≡◌, ℕ, ◌*◌, ◌<◌, ◌≤◌, ◌^�
 use Rattle.std.specs.Prelude.{◌↔◌, IsTrue}
 use Rattle.std.specs.List.{All}
 use Rattle.std.proofs.lemmas.List.Elements.{Contains-get_or}
+use Rattle.sector_lattice.specs.declared.seeding.TheConstants.{SEED_LIMIT}
 use Rattle.sector_lattice.specs.Sectors.{sector_of}
 use Rattle.sector_lattice.specs.Seeds.{AreSeeds, seed_number}
 use Rattle.sector_lattice.specs.Orders.{sector_below}
@@ -27,13 +28,13 @@ fits_below family sector (target ∷ targets) fits =
     subst (λ s. s < 2 ^ family.n) same (subst (λ n. sector_of target < 2 ^ n) long (sector_below target))
 
 -- the bounds that the code computes are those of the definition
-pub seeds_for : (family : FamilyData) (sector : ℕ) (targets : List Integral) (dots rank : ℕ) (seeds : List Integral) → dots ≡ dots_bound family targets → rank ≡ rank_bound family targets
+pub seeds_for : (family : FamilyData) (sector : ℕ) (targets : List Integral) (dots rank : ℕ) (seeds : List Integral) → dots ≡ dots_bound family sector targets → rank ≡ rank_bound family sector targets
     → AreSeeds sector family.n dots rank seeds → AreSeedsFor family sector targets seeds
 seeds_for family sector targets dots rank seeds few low h =
-    subst (λ d. AreSeeds sector family.n d (rank_bound family targets) seeds) few (subst (λ r. AreSeeds sector family.n dots r seeds) low h)
+    subst (λ d. AreSeeds sector family.n d (rank_bound family sector targets) seeds) few (subst (λ r. AreSeeds sector family.n dots r seeds) low h)
 
 pub is_over : (family : FamilyData) (sector : ℕ) (targets : List Integral) (fields : List StrippedField) (dots rank : ℕ) → sector < 2 ^ family.n → HasBasis family sector fields
-    → dots ≡ dots_bound family targets → rank ≡ rank_bound family targets → family.budget.candidates < length fields * seed_number sector family.n dots rank → IsOver family sector targets
+    → dots ≡ dots_bound family sector targets → rank ≡ rank_bound family sector targets → family.budget.candidates < length fields * seed_number sector family.n dots rank → IsOver family sector targets
 is_over family sector targets fields dots rank below basis few low over =
     let seeds = layers family.n sector dots rank in
     record {
@@ -44,7 +45,7 @@ is_over family sector targets fields dots rank below basis few low over =
       over = subst (λ count. family.budget.candidates < length fields * count) (sym (layers_counted family.n sector dots rank below)) over;
     }
 
-pub all_powers : (sector n dots rank : ℕ) (seeds : List Integral) → dots ≤ 20 → rank ≤ 20 → AreSeeds sector n dots rank seeds → All (ArePowers n) seeds
+pub all_powers : (sector n dots rank : ℕ) (seeds : List Integral) → dots ≤ SEED_LIMIT → rank ≤ SEED_LIMIT → AreSeeds sector n dots rank seeds → All (ArePowers n) seeds
 all_powers sector n dots rank seeds few low h k d within =
     seed_powers sector n dots rank _ few low ((h.members _).0 (Contains-get_or seeds k d within))
 
@@ -59,7 +60,7 @@ few_rows family fields seeds rows count limit are counted within =
     omega (arith, number, within)
 
 pub is_worked : (family : FamilyData) (sector : ℕ) (targets : List Integral) (fields : List StrippedField) (dots rank : ℕ) (seeds : List Integral) (rows : List IntegralSum) (tails : List Integral)
-    → HasBasis family sector fields → dots ≡ dots_bound family targets → rank ≡ rank_bound family targets → AreSeeds sector family.n dots rank seeds
+    → HasBasis family sector fields → dots ≡ dots_bound family sector targets → rank ≡ rank_bound family sector targets → AreSeeds sector family.n dots rank seeds
     → length seeds ≡ seed_number sector family.n dots rank → length fields * seed_number sector family.n dots rank ≤ family.budget.candidates
     → AreCandidates family fields seeds rows → AreTails sector targets rows tails → IsWorked family sector targets fields rows tails
 is_worked family sector targets fields dots rank seeds rows tails basis few low are counted within candidates handed =

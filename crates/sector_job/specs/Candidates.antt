@@ -1,6 +1,6 @@
 -- The candidates of a sector for some of its integrals, and what they hand down.
 -- After NeatIBP (Wu, Boehm, Ma, Xu, Zhang); seeds by dots and rank, and the order of integrals, after Laporta.
---     dots_bound, rank_bound     the bounds of the seeds for some targets
+--     dots_bound, rank_bound     the bounds of the seeds of a sector for some targets
 --     AreSeedsFor                the seeds of a sector for some targets, lowest first
 --     Label, labels              a seed with the number of a field; all of them for some seeds and so many fields: lowest
 --                                seed first, then the number
@@ -19,6 +19,7 @@ pub use Rattle.sector_lattice.specs.declared.integral.Integral.{Integral}
 use Rattle.sector_lattice.specs.Sectors.{sector_of, dots_of, rank_of, integral_cmp, Ascends, IsProperSubsector}
 use Rattle.sector_lattice.specs.Seeds.{AreSeeds}
 use Rattle.sparse_rows.specs.Rows.{IntegralSum, coefficient_of, is_zero_integral}
+use Rattle.family.specs.Caps.{caps_of}
 use Rattle.family.specs.FamilyData.{FamilyData}
 use Rattle.family.specs.declared.parts.StrippedField.{StrippedField}
 use Rattle.row_echelon.specs.RowSpans.{WholeSpan}
@@ -28,14 +29,14 @@ abbrev pub greatest : (Integral → ℕ) → List Integral → ℕ
 greatest f [] = 0
 greatest f (integral ∷ integrals) = max (f integral) (greatest f integrals)
 
-abbrev pub dots_bound : FamilyData → List Integral → ℕ
-dots_bound family targets = min family.bounds.dots_cap (greatest dots_of targets + family.bounds.extra_dots)
+abbrev pub dots_bound : FamilyData → ℕ → List Integral → ℕ
+dots_bound family sector targets = min (caps_of family.bounds family.caps sector).0 (greatest dots_of targets + family.bounds.extra_dots)
 
-abbrev pub rank_bound : FamilyData → List Integral → ℕ
-rank_bound family targets = min family.bounds.rank_cap (greatest rank_of targets + family.bounds.extra_rank)
+abbrev pub rank_bound : FamilyData → ℕ → List Integral → ℕ
+rank_bound family sector targets = min (caps_of family.bounds family.caps sector).1 (greatest rank_of targets + family.bounds.extra_rank)
 
 abbrev pub AreSeedsFor : FamilyData → ℕ → List Integral → List Integral → Type 0
-AreSeedsFor family sector targets seeds = AreSeeds sector family.n (dots_bound family targets) (rank_bound family targets) seeds
+AreSeedsFor family sector targets seeds = AreSeeds sector family.n (dots_bound family sector targets) (rank_bound family sector targets) seeds
 
 -- fields are numbered from 1
 pub record Label : Type 0 where

@@ -9,22 +9,24 @@ ghost use Rattle.sector_job.specs.Candidates.{greatest, dots_bound, rank_bound};
 use family::Family;
 use sector_lattice::{Integral, SEED_LIMIT, Sector, seed_count};
 
-/// The most dots of the seeds.
-pub fn most_dots(family: &Family, targets: &[Integral]) -> u32
-    ensures value { result ≡ dots_bound (family_view family.now) targets.now }
+/// The most dots of the seeds of the sector.
+pub fn most_dots(family: &Family, sector: Sector, targets: &[Integral]) -> u32
+    ensures value { result ≡ dots_bound (family_view family.now) sector.0 targets.now }
     ensures bound { result ≤ SEED_LIMIT }
 {
+    let (cap, _) = family.caps_of(sector);
     let dots = greatest_dots(targets).saturating_add(family.bounds.extra_dots);
-    family.bounds.dots_cap.min(dots)
+    cap.min(dots)
 }
 
-/// The most rank of the seeds.
-pub fn most_rank(family: &Family, targets: &[Integral]) -> u32
-    ensures value { result ≡ rank_bound (family_view family.now) targets.now }
+/// The most rank of the seeds of the sector.
+pub fn most_rank(family: &Family, sector: Sector, targets: &[Integral]) -> u32
+    ensures value { result ≡ rank_bound (family_view family.now) sector.0 targets.now }
     ensures bound { result ≤ SEED_LIMIT }
 {
+    let (_, cap) = family.caps_of(sector);
     let rank = greatest_rank(targets).saturating_add(family.bounds.extra_rank);
-    family.bounds.rank_cap.min(rank)
+    cap.min(rank)
 }
 
 fn greatest_dots(targets: &[Integral]) -> u32

@@ -71,8 +71,8 @@ fn outcome_by(
 {
     let sector = generators.sector();
     let fields = generators.fields();
-    let dots = most_dots(family, targets);
-    let rank = most_rank(family, targets);
+    let dots = most_dots(family, sector, targets);
+    let rank = most_rank(family, sector, targets);
     if are_too_many(family, fields.len(), sector, dots, rank) {
         return Ok(Outcome::CandidatesOver);
     }

@@ -1,7 +1,9 @@
 -- Binomials, and the sums of them that count how dots and rank are spread over places.
-use Rattle.std.proofs.Common.{◌≡◌, ℕ, zero, suc, ◌+◌, ◌-◌, ◌*◌, ◌/◌, ◌<◌, ◌≤◌, ◌^◌, refl, sym, ◌∙◌, ap, arith, pow-suc}
-use Rattle.std.proofs.Math.Pow.{pow_mono}
+use Rattle.std.proofs.Common.{◌≡◌, ℕ, zero, suc, ◌+◌, ◌-◌, ◌*◌, ◌/◌, ◌<◌, ◌≤◌, ◌^◌, refl, sym, ◌∙◌, ap, subst, arith, pow-suc}
+use Rattle.std.proofs.Math.Pow.{pow_mono, pow_pos}
 use Rattle.std.proofs.Math.Nat.{mul-div_cancel, mul-le-mul_right}
+use Rattle.sector_lattice.specs.declared.integral.TheConstants.{LINES}
+use Rattle.sector_lattice.specs.declared.seeding.TheConstants.{SEED_LIMIT}
 use Rattle.sector_lattice.specs.Seeds.{binomial}
 
 -- the sum of the numbers below a bound
@@ -66,15 +68,25 @@ pascal : (n k : ℕ) → binomial (suc n) (suc k) ≡ binomial n k + binomial n 
 unfolding binomial
 pascal n k = refl
 
-pub binomial-le : (n k : ℕ) → binomial n k ≤ 2 ^ n
+-- two that stand side by side count sets of two sizes
+neighbours : (n k : ℕ) → binomial n k + binomial n (suc k) ≤ 2 ^ n
 unfolding binomial
-binomial-le zero zero = omega arith
-binomial-le zero (suc k) = omega arith
-binomial-le (suc n) zero = let a : binomial n 0 ≤ 2 ^ n = binomial-le n 0 in omega (arith, pow-suc 2 n, binomial_none n)
-binomial-le (suc n) (suc k) =
-    let a : binomial n k ≤ 2 ^ n = binomial-le n k in
-    let b : binomial n (suc k) ≤ 2 ^ n = binomial-le n (suc k) in
+neighbours zero zero = omega arith
+neighbours zero (suc k) = omega arith
+neighbours (suc n) zero =
+    let a : binomial n 0 + binomial n 1 ≤ 2 ^ n = neighbours n 0 in
+    omega (arith, pow-suc 2 n, pow_pos n)
+neighbours (suc n) (suc k) =
+    let a : binomial n k + binomial n (suc k) ≤ 2 ^ n = neighbours n k in
+    let b : binomial n (suc k) + binomial n (suc (suc k)) ≤ 2 ^ n = neighbours n (suc k) in
     omega (arith, pow-suc 2 n)
+
+-- at most half of all sets are of one size
+pub binomial-le_half : (n k : ℕ) → binomial n k ≤ 2 ^ (n - 1)
+unfolding binomial
+binomial-le_half n zero = omega (arith, binomial_none n, pow_pos (n - 1))
+binomial-le_half zero (suc k) = omega arith
+binomial-le_half (suc n) (suc k) = let all : binomial (suc n) (suc k) ≤ 2 ^ n = neighbours n k in let e : suc n - 1 ≡ n = omega arith in subst (λ (m : ℕ). binomial (suc n) (suc k) ≤ 2 ^ m) (sym e) all
 
 -- the next binomial by a product and a quotient
 pub binomial_next : (n k : ℕ) → suc k * binomial (suc n) (suc k) ≡ suc n * binomial n k
@@ -90,14 +102,15 @@ binomial_next (suc n) (suc k) =
     let c : binomial (suc n) (suc k) ≡ binomial n k + binomial n (suc k) = pascal n k in
     omega arith
 
-pub binomial_bound : (n k : ℕ) → n ≤ 29 → binomial n k ≤ 2 ^ 29
-binomial_bound n k h = let a : 2 ^ n ≤ 2 ^ 29 = pow_mono h in omega (arith, binomial-le n k)
+pub ways_bound : (places spent ways : ℕ) → places + spent ≤ LINES + SEED_LIMIT → ways ≡ binomial (places + spent) spent → ways ≤ 2 ^ (LINES + SEED_LIMIT - 1)
+ways_bound places spent ways few h =
+    let b : binomial (places + spent) spent ≤ 2 ^ (places + spent - 1) = binomial-le_half (places + spent) spent in
+    let fewer : places + spent - 1 ≤ LINES + SEED_LIMIT - 1 = omega arith in
+    let most : 2 ^ (places + spent - 1) ≤ 2 ^ (LINES + SEED_LIMIT - 1) = pow_mono fewer in
+    omega arith
 
-pub ways_bound : (places spent ways : ℕ) → places + spent ≤ 29 → ways ≡ binomial (places + spent) spent → ways ≤ 2 ^ 29
-ways_bound places spent ways few h = let b : binomial (places + spent) spent ≤ 2 ^ 29 = binomial_bound (places + spent) spent few in omega arith
-
-pub ways_product : (ways factor : ℕ) → ways ≤ 2 ^ 29 → factor ≤ 30 → ways * factor ≤ 2 ^ 29 * 30
-ways_product ways factor h k = let a : ways * factor ≤ 2 ^ 29 * factor = mul-le-mul_right factor h in omega arith
+pub ways_product : (ways factor : ℕ) → ways ≤ 2 ^ (LINES + SEED_LIMIT - 1) → factor ≤ LINES + SEED_LIMIT → ways * factor ≤ 2 ^ (LINES + SEED_LIMIT - 1) * (LINES + SEED_LIMIT)
+ways_product ways factor h k = let a : ways * factor ≤ 2 ^ (LINES + SEED_LIMIT - 1) * factor = mul-le-mul_right factor h in omega arith
 
 -- one more to spend
 pub next_ways : (places spent ways : ℕ) → ways ≡ binomial (places + spent) spent → ways * (places + spent + 1) / (spent + 1) ≡ binomial (places + (spent + 1)) (spent + 1)

@@ -10,11 +10,13 @@ use Rattle.std.specs.Int.Count.{ones_step, ones-le}
 use Rattle.std.proofs.lemmas.Bool.Decides.{nat_tests}
 use Rattle.std.proofs.lemmas.List.{length-map}
 use Rattle.std.proofs.lemmas.Nat.{ones_le_self}
+use Rattle.ibp_base.proofs.Members.{in_cases, in_head, in_none, from_map, in_map}
+use Rattle.ibp_base.proofs.Ascending.{sorted_map, sorted_cons, sorted_none}
 use Rattle.sector_lattice.specs.Sectors.{sector_of, dots_of, rank_of, is_positive}
 use Rattle.sector_lattice.specs.Layers.{is_member, power_of, dots_left, rank_left, to_spend, layer}
 use Rattle.sector_lattice.proofs.Counting.{sum_below, sum_below-same, sum_below-scale, spread, spread_more}
 use Rattle.sector_lattice.proofs.Digits.{spent_in, power_back, positive_power, size_of_power, dots_cons, rank_cons, halves, joined_halves, half_below}
-use Rattle.sector_lattice.proofs.Joining.{in_cases, in_head, in_none, from_map, in_map, from_joined, in_joined, joined_sorted, sorted_map, sorted_cons, sorted_none, length-joined}
+use Rattle.sector_lattice.proofs.Joining.{from_joined, in_joined, joined_sorted, length-joined}
 
 pub record IsInLayer (n sector dots rank : ℕ) (powers : List ℤ) : Type 0 where
   pub of_n : length powers ≡ n

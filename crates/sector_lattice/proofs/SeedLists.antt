@@ -4,12 +4,13 @@ use Rattle.std.specs.Prelude.{ℤ, count_ones, Contains}
 use Rattle.std.specs.Ordering.{nat_cmp, ordering_then}
 use Rattle.std.specs.declared.cmp.Ordering.{Ordering}
 use Rattle.std.specs.declared.cmp.Ordering.TheVariants.{Less, Equal}
+use Rattle.ibp_base.proofs.Ascending.{sorted_refined}
 use Rattle.sector_lattice.specs.Sectors.{sector_of, dots_of, rank_of, integral_cmp, Ascends}
 use Rattle.sector_lattice.specs.Seeds.{binomial, seed_number, IsSeed, AreSeeds}
 use Rattle.sector_lattice.specs.Layers.{joined, layer, layers}
 use Rattle.sector_lattice.proofs.Counting.{sum_below, sum_below-same, sum_below-scale, spread, spread_sum}
 use Rattle.sector_lattice.proofs.Layering.{IsInLayer, from_layer, in_layer, layer_sorted, layer_counted, size_cmp, nat_less, nat_equal}
-use Rattle.sector_lattice.proofs.Joining.{from_joined, in_joined, joined_sorted, sorted_refined, length-joined}
+use Rattle.sector_lattice.proofs.Joining.{from_joined, in_joined, joined_sorted, length-joined}
 
 -- the layers of so many dots
 abbrev pub of_dots : ℕ → ℕ → ℕ → ℕ → List (List ℤ)

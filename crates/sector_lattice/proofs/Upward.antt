@@ -6,10 +6,12 @@ use Rattle.std.specs.declared.cmp.Ordering.TheVariants.{Less}
 use Rattle.std.specs.List.Sorted.{IsStrictlySortedBy}
 use Rattle.std.specs.Int.Count.{ones-le}
 use Rattle.std.proofs.lemmas.Bool.Decides.{nat_tests}
+use Rattle.ibp_base.proofs.Members.{in_cases, in_head, in_none}
+use Rattle.ibp_base.proofs.Ascending.{sorted_cons, sorted_none}
 use Rattle.sector_lattice.specs.Sectors.{sector_cmp, IsProperSubsector, AreSupersectors}
 use Rattle.sector_lattice.specs.Orders.{shared_digits, from_shared_digits}
 use Rattle.sector_lattice.specs.Above.{is_above, one_above, of_lines, all_above}
-use Rattle.sector_lattice.proofs.Joining.{in_cases, in_head, in_none, from_joined, in_joined, joined_sorted, sorted_cons, sorted_none}
+use Rattle.sector_lattice.proofs.Joining.{from_joined, in_joined, joined_sorted}
 use Rattle.sector_lattice.proofs.Layering.{nat_less, nat_equal}
 
 -- another sector that has so many lines and lies above

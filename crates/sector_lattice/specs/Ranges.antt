@@ -1,5 +1,5 @@
 -- Ranges.
---     InRange powers                     the powers that an integral may have: from one to nine, each from -600 to 600
+--     InRange powers                     the powers that an integral may have: from one to LINES, each from -POWER to POWER
 --     IsSectorOf sector n                a sector of so many variables
 --     HasSeedBounds sector n dots rank   a sector of so many variables, and bounds that its seeds may have
 -- Source: limits of our own.

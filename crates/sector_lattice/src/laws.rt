@@ -43,7 +43,7 @@ pub fn sector_members()
 /// The limits: how many powers an integral has at most, how far a power is from zero at most, and the most dots and
 /// the most rank of seeds.
 pub fn limits()
-    ensures lines { LINES ≡ 9 }
-    ensures power { POWER ≡ pos 600 }
+    ensures lines { LINES ≡ 12 }
+    ensures power { POWER ≡ pos 1200 }
     ensures seeds { SEED_LIMIT ≡ 20 }
 {}

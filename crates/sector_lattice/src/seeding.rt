@@ -27,7 +27,7 @@ fn spreads(places: u8, most: u32) -> u64
     requires few { places ≤ LINES }
     requires low { most ≤ SEED_LIMIT }
     ensures value { result ≡ binomial (places + most) most }
-    ensures bound { result ≤ 2 ^ 29 }
+    ensures bound { result ≤ 2 ^ (LINES + SEED_LIMIT - 1) }
 {
     let mut ways: u64 = 1;
     for spent in 0..u64::from(most) {
@@ -49,7 +49,7 @@ pub fn seeds(
     ensures seeds { IfOk result (λ seeds. AreSeeds sector.0 n dots rank seeds) }
     ensures number { IfOk result (λ seeds. length seeds ≡ seed_number sector.0 n dots rank) }
 {
-    let mut all = [0; 9];
+    let mut all = [0; LINES as usize];
     let found = in_layers(alloc, &mut all[..usize::from(n)], sector.0, dots, rank)?;
     Ok(List::from_vec(found))
 }

@@ -43,7 +43,7 @@ fn add_of_lines(found: &mut Vec<Sector>, sector: Sector, n: u8, members: u8) -> 
 fn sector_count(n: u8) -> u16
     requires few { n ≤ LINES }
     ensures value { result ≡ 2 ^ n }
-    ensures bound { result ≤ 512 }
+    ensures bound { result ≤ 2 ^ LINES }
 {
     2u16.pow(u32::from(n))
 }

@@ -14,6 +14,7 @@ use Rattle.ibp_algebra.proofs.PolynomialLaws.{SamePolynomial-multiply}
 use Rattle.ibp_algebra.proofs.ZeroDivisors.{AllKeys-append}
 use Rattle.mono_order.proofs.Terms.{add_exponents-one}
 use Rattle.ibp_algebra.proofs.ReverseLex.{sum-ones}
+use Rattle.mono_order.specs.declared.limits.TheConstants.{VARIABLES}
 
 -- ---- degrees
 
@@ -44,22 +45,22 @@ variable_terms n j below (t ∷ f) h = λ i. (variable_key n j t.0 h.0 below i, 
 
 -- the polynomial of the variable at place j, as the code has it
 abbrev pub code_variable : ℕ → Polynomial
-code_variable j = (set (replicate 9 0) j 1, 1) ∷ []
+code_variable j = (set (replicate VARIABLES 0) j 1, 1) ∷ []
 
-pub code_variable_is : (j k : ℕ) (m : List ℕ) (v : Polynomial) → SamePolynomial v ((m, k) ∷ []) → m ≡ set (replicate 9 0) j 1 → k ≡ 1 → SamePolynomial v (code_variable j)
+pub code_variable_is : (j k : ℕ) (m : List ℕ) (v : Polynomial) → SamePolynomial v ((m, k) ∷ []) → m ≡ set (replicate VARIABLES 0) j 1 → k ≡ 1 → SamePolynomial v (code_variable j)
 code_variable_is j k m v made exponents one = SameCoefficients-trans made (SameCoefficients-from_eq (λ i. (exponents i, one i) ∷ []))
 
-pub times_variable : (j : ℕ) (p v derived product : Polynomial) → j < 9 → AllKeys (λ m. length m ≡ 9) p → SamePolynomial v (code_variable j) → SamePolynomial derived (derivative j p)
+pub times_variable : (j : ℕ) (p v derived product : Polynomial) → j < VARIABLES → AllKeys (λ m. length m ≡ VARIABLES) p → SamePolynomial v (code_variable j) → SamePolynomial derived (derivative j p)
     → SamePolynomial product (multiply v derived) → SamePolynomial product (multiply (variable j) (derivative j p))
 times_variable j p v derived product below long made by_place times =
     SameCoefficients-trans times
     (SameCoefficients-trans (SamePolynomial-multiply made by_place)
-    (SameCoefficients-from_eq (ap (λ (f : Polynomial). f ++ []) (variable_terms 9 j below (derivative j p) (derivative_length 9 j p long)))))
+    (SameCoefficients-from_eq (ap (λ (f : Polynomial). f ++ []) (variable_terms VARIABLES j below (derivative j p) (derivative_length VARIABLES j p long)))))
 
-sum-variable : (j : ℕ) → j < 9 → sum (set (replicate 9 0) j 1) ≡ 1
-sum-variable j below = omega (arith, sum-set (replicate 9 0) j 1 below, sum-ones 9, get_or-le-sum (replicate 9 0) j)
+sum-variable : (j : ℕ) → j < VARIABLES → sum (set (replicate VARIABLES 0) j 1) ≡ 1
+sum-variable j below = omega (arith, sum-set (replicate VARIABLES 0) j 1 below, sum-ones VARIABLES, get_or-le-sum (replicate VARIABLES 0) j)
 
-pub variable_degree : (j : ℕ) (v : Polynomial) → j < 9 → IsCanonical deg_rev_lex v → SamePolynomial v (code_variable j) → degree_of v ≤ 1
+pub variable_degree : (j : ℕ) (v : Polynomial) → j < VARIABLES → IsCanonical deg_rev_lex v → SamePolynomial v (code_variable j) → degree_of v ≤ 1
 variable_degree j v below canonical made =
     degree_within 1 v (AllKeys-same (λ m. sum m ≤ 1) v (code_variable j) canonical made (omega (arith, sum-variable j below), tt))
 

@@ -27,6 +27,7 @@ use Rattle.sector_module.proofs.Syzygies.{IsPolynomialIn, IsInRange, IsSyzygy}
 use Rattle.sector_module.proofs.Fields.{IsInModule-syzygy}
 use Rattle.sector_module.proofs.Components.{components_from, SameVector-field_of}
 use Rattle.ibp_algebra.proofs.Degrees.{AllKeys-same}
+use Rattle.mono_order.specs.declared.limits.TheConstants.{VARIABLES}
 use Rattle.sector_module.proofs.OneBasis.{with_last}
 use Rattle.sector_module.proofs.Splitting.{NoneFrom}
 use Rattle.sector_module.proofs.Variables.{HasVariables-from_IsInFirst}
@@ -49,12 +50,12 @@ vector_same v b d last first (suc n) (f ∷ ds) e same =
     let next : first + suc i ≡ suc first + i = omega arith in
     subst (λ k. SamePolynomial (get_or ds i []) (component_of k v)) next (same (suc i) (omega arith))))
 
-module _ (degree : ℕ) (p : Polynomial) (n sector : ℕ) (few : n ≤ 9) (shape : AllKeys (HasVariables n) p) where
+module _ (degree : ℕ) (p : Polynomial) (n sector : ℕ) (few : n ≤ VARIABLES) (shape : AllKeys (HasVariables n) p) where
   -- what is known of an element of the reduced basis
   record IsElement (v : ModuleVector) : Type 0 where
     canonical : IsCanonical over_position v
-    terms : AllKeys (λ t. IsInRange 9 (suc n) t × NoneFrom n t.1) v
-    syzygy : IsSyzygy 9 (sector_factors p n sector) v
+    terms : AllKeys (λ t. IsInRange VARIABLES (suc n) t × NoneFrom n t.1) v
+    syzygy : IsSyzygy VARIABLES (sector_factors p n sector) v
 
   record HasFieldFacts (v : ModuleVector) (f : StrippedField) : Type 0 where
     vector : field_vector f ≡ v
@@ -64,7 +65,7 @@ module _ (degree : ℕ) (p : Polynomial) (n sector : ℕ) (few : n ≤ 9) (shape
 
   variables_of : (v : ModuleVector) → IsElement v → AllKeys (λ (t : Term). HasVariables n t.1) v
   variables_of v h =
-      AllKeys-weaker (λ (t : Term). IsInRange 9 (suc n) t × NoneFrom n t.1) (λ (t : Term). HasVariables n t.1)
+      AllKeys-weaker (λ (t : Term). IsInRange VARIABLES (suc n) t × NoneFrom n t.1) (λ (t : Term). HasVariables n t.1)
       (λ t k. HasVariables-from_IsInFirst n t.1 (record { exponents = k.0.exponents; none = k.1 })) v h.terms
 
   polynomial_of : (v : ModuleVector) → IsElement v → (i : ℕ) (f : Polynomial) → IsComponentOf degree i v f → IsPolynomial n degree f
@@ -81,30 +82,30 @@ module _ (degree : ℕ) (p : Polynomial) (n sector : ℕ) (few : n ≤ 9) (shape
       All-from_get_or (IsPolynomial n degree) f.c [] (λ i below. polynomial_of v h (1 + i) (get_or f.c i []) (k.polynomials i (omega (arith, below, k.count))))
       in
       let last : IsPolynomial n degree f.b = polynomial_of v h (1 + n) f.b k.factor in
-      let range : AllKeys (IsInRange 9 (suc n)) v = AllKeys-weaker (λ (t : Term). IsInRange 9 (suc n) t × NoneFrom n t.1) (IsInRange 9 (suc n)) (λ t r. r.0) v h.terms in
+      let range : AllKeys (IsInRange VARIABLES (suc n)) v = AllKeys-weaker (λ (t : Term). IsInRange VARIABLES (suc n) t × NoneFrom n t.1) (IsInRange VARIABLES (suc n)) (λ t r. r.0) v h.terms in
       let same : SameVector v (vector_of 1 (f.c ++ f.b ∷ [])) =
-      SameCoefficients-trans (SameVector-field_of 9 n v range)
+      SameCoefficients-trans (SameVector-field_of VARIABLES n v range)
       (SameCoefficients-sym (vector_same v f.b (component_of (1 + n) v) k.factor.same 1 n f.c k.count (λ i below. (k.polynomials i below).same)))
       in
-      let nine : (g : Polynomial) → IsPolynomial n degree g → IsPolynomialIn 9 g =
-      λ g j. AllKeys-weaker (HasVariables n) (λ m. length m ≡ 9) (λ m has. has.nine) g j.variables
+      let wider : (g : Polynomial) → IsPolynomial n degree g → IsPolynomialIn VARIABLES g =
+      λ g j. AllKeys-weaker (HasVariables n) (λ m. length m ≡ VARIABLES) (λ m has. has.each_variable) g j.variables
       in
-      let polynomials : AllByRecursion (IsPolynomialIn 9) (f.c ++ f.b ∷ []) =
-      with_last (IsPolynomialIn 9) f.c (recursion_from_All (IsPolynomialIn 9) f.c (All-weaker (IsPolynomial n degree) (IsPolynomialIn 9) nine f.c all)) f.b (nine f.b last)
+      let polynomials : AllByRecursion (IsPolynomialIn VARIABLES) (f.c ++ f.b ∷ []) =
+      with_last (IsPolynomialIn VARIABLES) f.c (recursion_from_All (IsPolynomialIn VARIABLES) f.c (All-weaker (IsPolynomial n degree) (IsPolynomialIn VARIABLES) wider f.c all)) f.b (wider f.b last)
       in
       let s = h.syzygy in
-      let own : IsSyzygy 9 (sector_factors p n sector) (vector_of 1 (f.c ++ f.b ∷ [])) =
+      let own : IsSyzygy VARIABLES (sector_factors p n sector) (vector_of 1 (f.c ++ f.b ∷ [])) =
       record { terms = s.terms; in_range = s.in_range; same = SameCoefficients-trans (SameCoefficients-sym same) s.same; vanishes = s.vanishes }
       in
       record {
-        vector = sym (is_normal_form (over_position_laws 9) v (vector_of 1 (f.c ++ f.b ∷ [])) h.canonical same);
+        vector = sym (is_normal_form (over_position_laws VARIABLES) v (vector_of 1 (f.c ++ f.b ∷ [])) h.canonical same);
         canonical = record {
           count = k.count;
           polynomials = All-weaker (IsPolynomial n degree) (IsCanonical deg_rev_lex) (λ g j. j.canonical) f.c all;
           factor = last.canonical;
         };
         fits = record { count = k.count; polynomials = all; factor = last };
-        member = (IsInModule-syzygy 9 p f.b (in_sector sector) n f.c k.count polynomials).1 own;
+        member = (IsInModule-syzygy VARIABLES p f.b (in_sector sector) n f.c k.count polynomials).1 own;
       }
 
   all_facts : (list : List ModuleVector) (fields : List StrippedField) → AllByRecursion IsElement list → AllZip (IsFieldOf degree n) list fields → AllZip HasFieldFacts list fields
@@ -126,7 +127,7 @@ module _ (degree : ℕ) (p : Polynomial) (n sector : ℕ) (few : n ≤ 9) (shape
   each_field P h (v ∷ list) [] k = absurd k
   each_field P h (v ∷ list) (f ∷ fields) k = (h v f k.0, each_field P h list fields k.1)
 
-  module _ (list : List ModuleVector) (h : IsReducedBasis over_position 9 (IsSyzygy 9 (sector_factors p n sector)) list) (fields : List StrippedField) (zip : AllZip (IsFieldOf degree n) list fields) where
+  module _ (list : List ModuleVector) (h : IsReducedBasis over_position VARIABLES (IsSyzygy VARIABLES (sector_factors p n sector)) list) (fields : List StrippedField) (zip : AllZip (IsFieldOf degree n) list fields) where
     facts : AllZip HasFieldFacts list fields
     facts =
         all_facts list fields
@@ -143,5 +144,5 @@ module _ (degree : ℕ) (p : Polynomial) (n sector : ℕ) (few : n ≤ 9) (shape
     fields_basis =
         record {
           canonical = All-from_recursion (IsCanonicalField n) fields (each_field (IsCanonicalField n) (λ v f k. k.canonical) list fields facts);
-          reduced = subst (IsReducedBasis over_position 9 (IsSectorMember p n sector)) (sym (vectors_are list fields facts)) (sector_reduced p n sector few shape list h);
+          reduced = subst (IsReducedBasis over_position VARIABLES (IsSectorMember p n sector)) (sym (vectors_are list fields facts)) (sector_reduced p n sector few shape list h);
         }

@@ -21,48 +21,49 @@ use Rattle.family.specs.Conditions.{in_sector}
 use Rattle.ibp_algebra.specs.Field.{sector_factor}
 use Rattle.sector_module.specs.Factors.{factors_from, sector_factors, at_component, unit_vector, factor_generator, factor_generators, sector_generators}
 use Rattle.ibp_algebra.proofs.Degrees.{AllKeys-same}
+use Rattle.mono_order.specs.declared.limits.TheConstants.{VARIABLES}
 use Rattle.sector_module.proofs.Fields.{length-factors}
 use Rattle.sector_module.proofs.OneBasis.{at_weight, other_weight, same_number}
 
 -- ---- one vector
 
 -- the terms that the loop has made, and the last one
-pub generator_terms : (i k : ℕ) (f items : Polynomial) (made terms : ModuleVector) (m : List ℕ) (one : ℕ) → length items ≤ k → items ≡ f → m ≡ replicate 9 0 → one ≡ 1
-    → terms ≡ made ++ ((i, m), one) ∷ [] → made ≡ at_component 0 (take k items) → terms ≡ factor_generator 9 i f
+pub generator_terms : (i k : ℕ) (f items : Polynomial) (made terms : ModuleVector) (m : List ℕ) (one : ℕ) → length items ≤ k → items ≡ f → m ≡ replicate VARIABLES 0 → one ≡ 1
+    → terms ≡ made ++ ((i, m), one) ∷ [] → made ≡ at_component 0 (take k items) → terms ≡ factor_generator VARIABLES i f
 generator_terms i k f items made terms m one whole same at_m at_one pushed e =
     pushed ∙ (λ j. (e ∙ ap (at_component 0) (take_all k items whole ∙ same)) j ++ ((i, at_m j), at_one j) ∷ [])
 
-pub generator_within : (limit i : ℕ) (f : Polynomial) → AllKeys (λ m. sum m ≤ limit) f → AllKeys (λ t. sum t.1 ≤ limit) (factor_generator 9 i f)
+pub generator_within : (limit i : ℕ) (f : Polynomial) → AllKeys (λ m. sum m ≤ limit) f → AllKeys (λ t. sum t.1 ≤ limit) (factor_generator VARIABLES i f)
 generator_within limit i f h =
-    AllKeys-append (λ t. sum t.1 ≤ limit) (at_component 0 f) (unit_vector 9 i) (AllKeys-map_keys (λ m. sum m ≤ limit) (λ t. sum t.1 ≤ limit) (λ m. (0, m)) (λ m le. le) f h)
-    (omega (arith, sum-ones 9), tt)
+    AllKeys-append (λ t. sum t.1 ≤ limit) (at_component 0 f) (unit_vector VARIABLES i) (AllKeys-map_keys (λ m. sum m ≤ limit) (λ t. sum t.1 ≤ limit) (λ m. (0, m)) (λ m le. le) f h)
+    (omega (arith, sum-ones VARIABLES), tt)
 
 -- no vector of this form is zero
-pub generator_some : (i : ℕ) (f : Polynomial) → 0 < i → normal_form zero_dominates (factor_generator 9 i f) ≢ []
+pub generator_some : (i : ℕ) (f : Polynomial) → 0 < i → normal_form zero_dominates (factor_generator VARIABLES i f) ≢ []
 generator_some i f positive e =
     let w = at_weight i (λ (m : List ℕ). 1) in
-    let same : SameVector [] (factor_generator 9 i f) = SameVector-normal (zero_dominates_laws 9) [] (factor_generator 9 i f) (sym e) in
-    let sums = (weighted_sum-SameCoefficients same_term terms_decide w [] (factor_generator 9 i f) same).same_residue in
+    let same : SameVector [] (factor_generator VARIABLES i f) = SameVector-normal (zero_dominates_laws VARIABLES) [] (factor_generator VARIABLES i f) (sym e) in
+    let sums = (weighted_sum-SameCoefficients same_term terms_decide w [] (factor_generator VARIABLES i f) same).same_residue in
     let none = other_weight i 0 (λ zero. omega (arith, zero, positive)) (λ (m : List ℕ). 1) f in
-    let one : weighted_sum w (unit_vector 9 i) ≡ 1 = ap (λ (b : Bool). 1 * (if b then 1 else 0) + 0) (same_number i) in
-    let whole = weighted_sum-append w (at_component 0 f) (unit_vector 9 i) in
-    let at : weighted_sum w (factor_generator 9 i f) ≡ 1 = omega (arith, whole, none, one) in
+    let one : weighted_sum w (unit_vector VARIABLES i) ≡ 1 = ap (λ (b : Bool). 1 * (if b then 1 else 0) + 0) (same_number i) in
+    let whole = weighted_sum-append w (at_component 0 f) (unit_vector VARIABLES i) in
+    let at : weighted_sum w (factor_generator VARIABLES i f) ≡ 1 = omega (arith, whole, none, one) in
     let clash : 0 % 2147483647 ≡ 1 % 2147483647 = sums ∙ ap (λ k. k % 2147483647) at in
     absurd (let no : ⊥ = cc in no)
 
-pub made_normal : (i : ℕ) (v terms : ModuleVector) (f : Polynomial) → IsCanonical zero_dominates v → SameVector v terms → terms ≡ factor_generator 9 i f
-    → v ≡ normal_form zero_dominates (factor_generator 9 i f)
+pub made_normal : (i : ℕ) (v terms : ModuleVector) (f : Polynomial) → IsCanonical zero_dominates v → SameVector v terms → terms ≡ factor_generator VARIABLES i f
+    → v ≡ normal_form zero_dominates (factor_generator VARIABLES i f)
 made_normal i v terms f canonical same is =
-    is_normal_form (zero_dominates_laws 9) v (factor_generator 9 i f) canonical (SameCoefficients-trans same (SameCoefficients-from_eq is))
+    is_normal_form (zero_dominates_laws VARIABLES) v (factor_generator VARIABLES i f) canonical (SameCoefficients-trans same (SameCoefficients-from_eq is))
 
 -- the vector depends on the coefficients of the factor alone
-normal_same : (i : ℕ) (f g : Polynomial) → SamePolynomial f g → normal_form zero_dominates (factor_generator 9 i f) ≡ normal_form zero_dominates (factor_generator 9 i g)
+normal_same : (i : ℕ) (f g : Polynomial) → SamePolynomial f g → normal_form zero_dominates (factor_generator VARIABLES i f) ≡ normal_form zero_dominates (factor_generator VARIABLES i g)
 normal_same i f g same =
-    let laws = zero_dominates_laws 9 in
-    is_normal_form laws (normal_form zero_dominates (factor_generator 9 i f)) (factor_generator 9 i g) (IsCanonical-normal_form zero_dominates laws.total laws.unique (factor_generator 9 i f))
-    (SameCoefficients-trans (SameVector-normal laws (normal_form zero_dominates (factor_generator 9 i f)) (factor_generator 9 i f) refl)
+    let laws = zero_dominates_laws VARIABLES in
+    is_normal_form laws (normal_form zero_dominates (factor_generator VARIABLES i f)) (factor_generator VARIABLES i g) (IsCanonical-normal_form zero_dominates laws.total laws.unique (factor_generator VARIABLES i f))
+    (SameCoefficients-trans (SameVector-normal laws (normal_form zero_dominates (factor_generator VARIABLES i f)) (factor_generator VARIABLES i f) refl)
     (SameCoefficients-append same_term terms_decide
-    (SameCoefficients-map_keys same_exponents exponents_decide same_term terms_decide (λ m. (0, m)) {f = f} {g = g} same) (SameCoefficients-refl same_term (unit_vector 9 i))))
+    (SameCoefficients-map_keys same_exponents exponents_decide same_term terms_decide (λ m. (0, m)) {f = f} {g = g} same) (SameCoefficients-refl same_term (unit_vector VARIABLES i))))
 
 -- ---- the list
 
@@ -76,30 +77,30 @@ factor_last : (p : Polynomial) (inside : ℕ → Bool) (i n : ℕ) → get_or (f
 factor_last p inside i zero = refl
 factor_last p inside i (suc n) = factor_last p inside (suc i) n
 
-length-generators : (i : ℕ) (fs : List Polynomial) → length (factor_generators 9 i fs) ≡ length fs
+length-generators : (i : ℕ) (fs : List Polynomial) → length (factor_generators VARIABLES i fs) ≡ length fs
 length-generators i [] = refl
 length-generators i (f ∷ fs) = omega (arith, length-generators (suc i) fs)
 
-generator_at : (i : ℕ) (fs : List Polynomial) (j : ℕ) → j < length fs → get_or (factor_generators 9 i fs) j [] ≡ factor_generator 9 (i + j) (get_or fs j [])
+generator_at : (i : ℕ) (fs : List Polynomial) (j : ℕ) → j < length fs → get_or (factor_generators VARIABLES i fs) j [] ≡ factor_generator VARIABLES (i + j) (get_or fs j [])
 generator_at i [] j below = absurd (omega arith)
-generator_at i (f ∷ fs) zero below = ap (λ k. factor_generator 9 k f) (omega arith)
-generator_at i (f ∷ fs) (suc j) below = generator_at (suc i) fs j (omega arith) ∙ ap (λ k. factor_generator 9 k (get_or fs j [])) (omega arith)
+generator_at i (f ∷ fs) zero below = ap (λ k. factor_generator VARIABLES k f) (omega arith)
+generator_at i (f ∷ fs) (suc j) below = generator_at (suc i) fs j (omega arith) ∙ ap (λ k. factor_generator VARIABLES k (get_or fs j [])) (omega arith)
 
 pub length-sector_generators : (p : Polynomial) (n sector : ℕ) → length (sector_generators p n sector) ≡ n + 1
 length-sector_generators p n sector =
     omega (
       arith,
-      length-map (factor_generators 9 1 (sector_factors p n sector)) (normal_form zero_dominates),
+      length-map (factor_generators VARIABLES 1 (sector_factors p n sector)) (normal_form zero_dominates),
       length-generators 1 (sector_factors p n sector),
       length-factors p (in_sector sector) 0 n,
     )
 
 sector_generator_at : (p : Polynomial) (n sector j : ℕ) → j < n + 1
-    → get_or (sector_generators p n sector) j [] ≡ normal_form zero_dominates (factor_generator 9 (1 + j) (get_or (sector_factors p n sector) j []))
+    → get_or (sector_generators p n sector) j [] ≡ normal_form zero_dominates (factor_generator VARIABLES (1 + j) (get_or (sector_factors p n sector) j []))
 sector_generator_at p n sector j below =
     let fs = sector_factors p n sector in
     let within : j < length fs = omega (arith, below, length-factors p (in_sector sector) 0 n) in
-    get_or-map (normal_form zero_dominates) (factor_generators 9 1 fs) j [] [] (omega (arith, within, length-generators 1 fs))
+    get_or-map (normal_form zero_dominates) (factor_generators VARIABLES 1 fs) j [] [] (omega (arith, within, length-generators 1 fs))
     ∙ ap (normal_form zero_dominates) (generator_at 1 fs j within)
 
 generators_step : (p : Polynomial) (n sector place : ℕ) (items new : List ModuleVector) (v : ModuleVector) → place < n + 1 → v ≡ get_or (sector_generators p n sector) place []
@@ -109,7 +110,7 @@ generators_step p n sector place items new v below is pushed e =
     pushed ∙ (λ j. e j ++ is j ∷ []) ∙ sym (take_more gs place [] (omega (arith, below, length-sector_generators p n sector)))
 
 pub generators_more : (p : Polynomial) (n sector place number lower : ℕ) (items new : List ModuleVector) (v : ModuleVector) (f : Polynomial) → place < n → number ≡ 1 + place → lower ≡ place
-    → SamePolynomial f (sector_factor p (in_sector sector) lower) → v ≡ normal_form zero_dominates (factor_generator 9 number f)
+    → SamePolynomial f (sector_factor p (in_sector sector) lower) → v ≡ normal_form zero_dominates (factor_generator VARIABLES number f)
     → new ≡ items ++ v ∷ [] → items ≡ take place (sector_generators p n sector) → new ≡ take (place + 1) (sector_generators p n sector)
 generators_more p n sector place number lower items new v f below numbered here same made pushed e =
     let own : SamePolynomial f (get_or (sector_factors p n sector) place []) =
@@ -117,11 +118,11 @@ generators_more p n sector place number lower items new v f below numbered here 
     (SameCoefficients-from_eq (sym (factor_at_place p (in_sector sector) 0 n place below ∙ ap (sector_factor p (in_sector sector)) (omega arith))))
     in
     generators_step p n sector place items new v (omega arith)
-    (made ∙ ap (λ k. normal_form zero_dominates (factor_generator 9 k f)) numbered ∙ normal_same (1 + place) f (get_or (sector_factors p n sector) place []) own
+    (made ∙ ap (λ k. normal_form zero_dominates (factor_generator VARIABLES k f)) numbered ∙ normal_same (1 + place) f (get_or (sector_factors p n sector) place []) own
     ∙ sym (sector_generator_at p n sector place (omega arith))) pushed e
 
 pub generators_last : (p : Polynomial) (n sector number factor : ℕ) (items new : List ModuleVector) (v : ModuleVector) (f : Polynomial) → number ≡ 1 + n → factor ≡ 2147483646
-    → SamePolynomial f (scale factor p) → v ≡ normal_form zero_dominates (factor_generator 9 number f) → new ≡ items ++ v ∷ []
+    → SamePolynomial f (scale factor p) → v ≡ normal_form zero_dominates (factor_generator VARIABLES number f) → new ≡ items ++ v ∷ []
     → items ≡ take n (sector_generators p n sector) → new ≡ sector_generators p n sector
 generators_last p n sector number factor items new v f numbered minus same made pushed e =
     let gs = sector_generators p n sector in
@@ -129,7 +130,7 @@ generators_last p n sector number factor items new v f numbered minus same made 
     SameCoefficients-trans (subst (λ k. SamePolynomial f (scale k p)) minus same) (SameCoefficients-from_eq (sym (factor_last p (in_sector sector) 0 n)))
     in
     generators_step p n sector n items new v (omega arith)
-    (made ∙ ap (λ k. normal_form zero_dominates (factor_generator 9 k f)) numbered ∙ normal_same (1 + n) f (get_or (sector_factors p n sector) n []) own
+    (made ∙ ap (λ k. normal_form zero_dominates (factor_generator VARIABLES k f)) numbered ∙ normal_same (1 + n) f (get_or (sector_factors p n sector) n []) own
     ∙ sym (sector_generator_at p n sector n (omega arith))) pushed e
     ∙ take_all (n + 1) gs (omega (arith, length-sector_generators p n sector))
 

@@ -13,6 +13,7 @@ use Rattle.ibp_algebra.specs.Polynomial.{Polynomial}
 use Rattle.ibp_algebra.proofs.PolynomialLaws.{same_polynomials}
 use Rattle.ibp_algebra.proofs.SumLaws.{SameCoefficients-sym, SameCoefficients-trans}
 use Rattle.ibp_algebra.proofs.Weights.{weighted_sum-append, weighted_sum-map_keys, weighted_sum-ext, weighted_sum-zero, weighted_sum-SameCoefficients, SameCoefficients-from_weights}
+use Rattle.mono_order.specs.declared.limits.TheConstants.{VARIABLES}
 use Rattle.mono_order.specs.Term.{Term, same_term}
 use Rattle.mono_order.specs.BlockOrders.{over_position_laws}
 use Rattle.mono_order.proofs.Terms.{terms_decide}
@@ -111,8 +112,8 @@ pub field_one : (n : ℕ) (f g : StrippedField) → IsCanonicalField n f → IsC
 field_one n f g h k e =
     let vf = vector_of 1 (f.c ++ f.b ∷ []) in
     let vg = vector_of 1 (g.c ++ g.b ∷ []) in
-    let first = SameVector-normal (over_position_laws 9) (field_vector f) vf refl in
-    let second = SameVector-normal (over_position_laws 9) (field_vector f) vg e in
+    let first = SameVector-normal (over_position_laws VARIABLES) (field_vector f) vf refl in
+    let second = SameVector-normal (over_position_laws VARIABLES) (field_vector f) vg e in
     let lists = polynomials_one 1 (f.c ++ f.b ∷ []) (g.c ++ g.b ∷ []) (omega (arith, length-append f.c (f.b ∷ []), length-append g.c (g.b ∷ []), h.count, k.count))
     (all_canonical n f h) (all_canonical n g k) (SameCoefficients-trans (SameCoefficients-sym first) second)
     in
@@ -128,10 +129,10 @@ fields_one n (f ∷ l) (g ∷ k) h j e =
     let tails : map field_vector l ≡ map field_vector k = cc in
     λ i. field_one n f g h.0 j.0 heads i ∷ fields_one n l k h.1 j.1 tails i
 
-pub one_basis : (p : Polynomial) (n sector : ℕ) → n ≤ 9 → AllKeys (HasVariables n) p → (first second : List StrippedField) → IsSectorBasis p n sector first → IsSectorBasis p n sector second
+pub one_basis : (p : Polynomial) (n sector : ℕ) → n ≤ VARIABLES → AllKeys (HasVariables n) p → (first second : List StrippedField) → IsSectorBasis p n sector first → IsSectorBasis p n sector second
     → first ≡ second
 one_basis p n sector few shape first second h k =
-    let vectors = syzygy_basis_unique 9 (sector_factors p n sector) (polynomials p n sector few shape) (few_factors p n sector few shape) (map field_vector first) (map field_vector second)
+    let vectors = syzygy_basis_unique VARIABLES (sector_factors p n sector) (polynomials p n sector few shape) (few_factors p n sector few shape) (map field_vector first) (map field_vector second)
     (syzygy_reduced p n sector few shape (map field_vector first) h.reduced) (syzygy_reduced p n sector few shape (map field_vector second) k.reduced)
     in
     fields_one n first second (recursion_from_All (IsCanonicalField n) first h.canonical) (recursion_from_All (IsCanonicalField n) second k.canonical) vectors

@@ -20,6 +20,7 @@ use Rattle.mono_order.specs.Term.{Term, same_term, divides}
 use Rattle.mono_order.specs.TermOrder.{over_position}
 use Rattle.mono_order.specs.BlockOrders.{over_position_laws}
 use Rattle.ibp_base.proofs.Tests.{and_true, both_true}
+use Rattle.mono_order.specs.declared.limits.TheConstants.{VARIABLES}
 use Rattle.mono_order.proofs.Terms.{terms_decide, divides-trans}
 use Rattle.mono_order.proofs.Places.{sum-quotient}
 use Rattle.module_vec.specs.ModuleVector.{ModuleVector, lead}
@@ -52,8 +53,8 @@ degree_of_lead v h t among =
     (λ (below : over_position (lead v) t ≡ Greater).
     ⊎_elim
     (λ (more : sum (lead v).1 < sum t.1).
-    let above = (over_position_laws 9).degree_first t (lead v) refl refl more in
-    absurd (let clash : Less ≡ Greater = sym (Less-reverse over_position (over_position_laws 9).total (lead v) t below) ∙ above in let no : ⊥ = cc in no))
+    let above = (over_position_laws VARIABLES).degree_first t (lead v) refl refl more in
+    absurd (let clash : Less ≡ Greater = sym (Less-reverse over_position (over_position_laws VARIABLES).total (lead v) t below) ∙ above in let no : ⊥ = cc in no))
     (λ (le : sum t.1 ≤ sum (lead v).1). le) (cases_lt (sum (lead v).1) (sum t.1)))
     (lead_or_below v h t among)
 
@@ -72,54 +73,54 @@ low_term-divides : (n : ℕ) (t : Term) → divides (low_term n t) t ≡ true
 low_term-divides n t = and_true _ _ ((unsigned_Decides t.0 t.0).1 refl) (low-divides n t.1)
 
 -- a divisor has at most the degree
-degree_of_divisor : (s t : Term) → length s.1 ≡ 9 → length t.1 ≡ 9 → divides s t ≡ true → sum s.1 ≤ sum t.1
-degree_of_divisor s t p q h = omega (arith, sum-quotient 9 s.1 t.1 p q (both_true _ _ h).1)
+degree_of_divisor : (s t : Term) → length s.1 ≡ VARIABLES → length t.1 ≡ VARIABLES → divides s t ≡ true → sum s.1 ≤ sum t.1
+degree_of_divisor s t p q h = omega (arith, sum-quotient VARIABLES s.1 t.1 p q (both_true _ _ h).1)
 
 place_is : (list : List ModuleVector) (g : ModuleVector) (c : Contains list g) → get_or list c.0 [] ≡ g
 place_is list g c = get_or_default list c.0 [] g c.1 ∙ c.2
 
 -- ---- the factors
 
-module _ (p : Polynomial) (n sector : ℕ) (few : n ≤ 9) (shape : AllKeys (HasVariables n) p) where
-  pub factors_first : AllByRecursion (AllKeys (IsInFirst 9 n)) (sector_factors p n sector)
+module _ (p : Polynomial) (n sector : ℕ) (few : n ≤ VARIABLES) (shape : AllKeys (HasVariables n) p) where
+  pub factors_first : AllByRecursion (AllKeys (IsInFirst VARIABLES n)) (sector_factors p n sector)
   factors_first =
-      factors_in_first 9 n p (in_sector sector) few (AllKeys-weaker (HasVariables n) (IsInFirst 9 n) (IsInFirst-from_HasVariables n) p shape) 0 n (omega arith)
+      factors_in_first VARIABLES n p (in_sector sector) few (AllKeys-weaker (HasVariables n) (IsInFirst VARIABLES n) (IsInFirst-from_HasVariables n) p shape) 0 n (omega arith)
 
   pub long_factors : length (sector_factors p n sector) ≡ suc n
   long_factors = omega (arith, length-factors p (in_sector sector) 0 n)
 
   -- a canonical syzygy has terms of the components 1 to n + 1 alone
-  in_range : (v : ModuleVector) → IsCanonical over_position v → IsSyzygy 9 (sector_factors p n sector) v → AllKeys (IsInRange 9 (suc n)) v
+  in_range : (v : ModuleVector) → IsCanonical over_position v → IsSyzygy VARIABLES (sector_factors p n sector) v → AllKeys (IsInRange VARIABLES (suc n)) v
   in_range v canonical s =
-      let range = subst (λ k. AllKeys (IsInRange 9 k) s.terms) long_factors s.in_range in
-      AllKeys-canonical same_term terms_decide over_position (over_position_laws 9).total (IsInRange 9 (suc n)) v canonical
-      (λ key counts. AllKeys-coefficient (IsInRange 9 (suc n)) s.terms range key (λ zero. counts (s.same.same_at key ∙ zero)))
+      let range = subst (λ k. AllKeys (IsInRange VARIABLES k) s.terms) long_factors s.in_range in
+      AllKeys-canonical same_term terms_decide over_position (over_position_laws VARIABLES).total (IsInRange VARIABLES (suc n)) v canonical
+      (λ key counts. AllKeys-coefficient (IsInRange VARIABLES (suc n)) s.terms range key (λ zero. counts (s.same.same_at key ∙ zero)))
 
-  exponents_of : (v : ModuleVector) → AllKeys (IsInRange 9 (suc n)) v → AllKeys (λ t. length t.1 ≡ 9) v
-  exponents_of v range = AllKeys-weaker (IsInRange 9 (suc n)) (λ (t : Term). length t.1 ≡ 9) (λ t r. r.exponents) v range
+  exponents_of : (v : ModuleVector) → AllKeys (IsInRange VARIABLES (suc n)) v → AllKeys (λ t. length t.1 ≡ VARIABLES) v
+  exponents_of v range = AllKeys-weaker (IsInRange VARIABLES (suc n)) (λ (t : Term). length t.1 ≡ VARIABLES) (λ t r. r.exponents) v range
 
-  part_in_range : (b : List ℕ) (v : ModuleVector) → AllKeys (IsInRange 9 (suc n)) v → AllKeys (IsInRange 9 (suc n)) (part n b v)
+  part_in_range : (b : List ℕ) (v : ModuleVector) → AllKeys (IsInRange VARIABLES (suc n)) v → AllKeys (IsInRange VARIABLES (suc n)) (part n b v)
   part_in_range b v range =
-      AllKeys-part n b (IsInRange 9 (suc n)) (IsInRange 9 (suc n))
+      AllKeys-part n b (IsInRange VARIABLES (suc n)) (IsInRange VARIABLES (suc n))
       (λ t r e. record { positive = r.positive; within = r.within; exponents = length-low n t.1 ∙ r.exponents }) v range
 
-  part_none : (b : List ℕ) (v : ModuleVector) → AllKeys (IsInRange 9 (suc n)) v → AllKeys (λ t. NoneFrom n t.1) (part n b v)
-  part_none b v range = AllKeys-part n b (IsInRange 9 (suc n)) (λ t. NoneFrom n t.1) (λ t r e. NoneFrom-low n t.1) v range
+  part_none : (b : List ℕ) (v : ModuleVector) → AllKeys (IsInRange VARIABLES (suc n)) v → AllKeys (λ t. NoneFrom n t.1) (part n b v)
+  part_none b v range = AllKeys-part n b (IsInRange VARIABLES (suc n)) (λ t. NoneFrom n t.1) (λ t r e. NoneFrom-low n t.1) v range
 
   -- each part of a syzygy is one
-  part_is_syzygy : (b : List ℕ) (v : ModuleVector) → AllKeys (IsInRange 9 (suc n)) v → IsSyzygy 9 (sector_factors p n sector) v → IsSyzygy 9 (sector_factors p n sector) (part n b v)
+  part_is_syzygy : (b : List ℕ) (v : ModuleVector) → AllKeys (IsInRange VARIABLES (suc n)) v → IsSyzygy VARIABLES (sector_factors p n sector) v → IsSyzygy VARIABLES (sector_factors p n sector) (part n b v)
   part_is_syzygy b v range s =
       let fs = sector_factors p n sector in
       let zero = SameCoefficients-trans (SamePolynomial-value_at fs v s.terms s.same) s.vanishes in
       record {
         terms = part n b v;
-        in_range = subst (λ k. AllKeys (IsInRange 9 k) (part n b v)) (sym long_factors) (part_in_range b v range);
+        in_range = subst (λ k. AllKeys (IsInRange VARIABLES k) (part n b v)) (sym long_factors) (part_in_range b v range);
         same = SameCoefficients-refl same_term (part n b v);
-        vanishes = value_of_part 9 n fs factors_first b v (exponents_of v range) zero;
+        vanishes = value_of_part VARIABLES n fs factors_first b v (exponents_of v range) zero;
       }
 
   -- A syzygy in the first n variables is a member.
-  sector_member : (v : ModuleVector) → AllKeys (IsInRange 9 (suc n)) v → AllKeys (λ t. NoneFrom n t.1) v → IsSyzygy 9 (sector_factors p n sector) v → IsSectorMember p n sector v
+  sector_member : (v : ModuleVector) → AllKeys (IsInRange VARIABLES (suc n)) v → AllKeys (λ t. NoneFrom n t.1) v → IsSyzygy VARIABLES (sector_factors p n sector) v → IsSectorMember p n sector v
   sector_member v range none s =
       let variables : AllKeys (λ (t : Term). HasVariables n t.1) v = first_keys v range none in
       record {
@@ -129,41 +130,41 @@ module _ (p : Polynomial) (n sector : ℕ) (few : n ≤ 9) (shape : AllKeys (Has
           polynomials = All-from_recursion (AllKeys (HasVariables n)) (field_of n v).c (components_keys (HasVariables n) 1 n v variables);
           factor = component_keys (HasVariables n) (1 + n) v variables;
         };
-        member = IsInModule-field_of 9 p (in_sector sector) n v range s;
-        same = SameCoefficients-trans (SameVector-field_of 9 n v range)
-            (SameCoefficients-sym (SameVector-normal (over_position_laws 9) (field_vector (field_of n v)) (vector_of 1 ((field_of n v).c ++ (field_of n v).b ∷ [])) refl));
+        member = IsInModule-field_of VARIABLES p (in_sector sector) n v range s;
+        same = SameCoefficients-trans (SameVector-field_of VARIABLES n v range)
+            (SameCoefficients-sym (SameVector-normal (over_position_laws VARIABLES) (field_vector (field_of n v)) (vector_of 1 ((field_of n v).c ++ (field_of n v).b ∷ [])) refl));
       }
     where
-      first_keys : (v : ModuleVector) → AllKeys (IsInRange 9 (suc n)) v → AllKeys (λ t. NoneFrom n t.1) v → AllKeys (λ (t : Term). HasVariables n t.1) v
+      first_keys : (v : ModuleVector) → AllKeys (IsInRange VARIABLES (suc n)) v → AllKeys (λ t. NoneFrom n t.1) v → AllKeys (λ (t : Term). HasVariables n t.1) v
       first_keys [] range none = tt
       first_keys (t ∷ v) range none = (HasVariables-from_IsInFirst n t.0.1 (record { exponents = range.0.exponents; none = none.0 }), first_keys v range.1 none.1)
 
   -- Each member is a syzygy.
-  pub syzygy_from_member : (v : ModuleVector) → IsSectorMember p n sector v → IsSyzygy 9 (sector_factors p n sector) v
+  pub syzygy_from_member : (v : ModuleVector) → IsSectorMember p n sector v → IsSyzygy VARIABLES (sector_factors p n sector) v
   syzygy_from_member v m =
       let c = m.field.c in
       let b = m.field.b in
-      let nine : (f : Polynomial) → AllKeys (HasVariables n) f → IsPolynomialIn 9 f = λ f h. AllKeys-weaker (HasVariables n) (λ m. length m ≡ 9) (λ m h. h.nine) f h in
-      let polynomials : AllByRecursion (IsPolynomialIn 9) (c ++ b ∷ []) =
-      with_last c (recursion_from_All (IsPolynomialIn 9) c (All-weaker (AllKeys (HasVariables n)) (IsPolynomialIn 9) nine c m.shape.polynomials)) b (nine b m.shape.factor)
+      let wider : (f : Polynomial) → AllKeys (HasVariables n) f → IsPolynomialIn VARIABLES f = λ f h. AllKeys-weaker (HasVariables n) (λ m. length m ≡ VARIABLES) (λ m h. h.each_variable) f h in
+      let polynomials : AllByRecursion (IsPolynomialIn VARIABLES) (c ++ b ∷ []) =
+      with_last c (recursion_from_All (IsPolynomialIn VARIABLES) c (All-weaker (AllKeys (HasVariables n)) (IsPolynomialIn VARIABLES) wider c m.shape.polynomials)) b (wider b m.shape.factor)
       in
-      let s = (IsInModule-syzygy 9 p b (in_sector sector) n c m.shape.count polynomials).0 m.member in
+      let s = (IsInModule-syzygy VARIABLES p b (in_sector sector) n c m.shape.count polynomials).0 m.member in
       record {
         terms = s.terms;
         in_range = s.in_range;
         same = SameCoefficients-trans m.same
-            (SameCoefficients-trans (SameVector-normal (over_position_laws 9) (field_vector m.field) (vector_of 1 (c ++ b ∷ [])) refl) s.same);
+            (SameCoefficients-trans (SameVector-normal (over_position_laws VARIABLES) (field_vector m.field) (vector_of 1 (c ++ b ∷ [])) refl) s.same);
         vanishes = s.vanishes;
       }
     where
-      with_last : (c : List Polynomial) → AllByRecursion (IsPolynomialIn 9) c → (b : Polynomial) → IsPolynomialIn 9 b → AllByRecursion (IsPolynomialIn 9) (c ++ b ∷ [])
+      with_last : (c : List Polynomial) → AllByRecursion (IsPolynomialIn VARIABLES) c → (b : Polynomial) → IsPolynomialIn VARIABLES b → AllByRecursion (IsPolynomialIn VARIABLES) (c ++ b ∷ [])
       with_last [] h b k = (k, tt)
       with_last (f ∷ c) h b k = (h.0, with_last c h.1 b k)
 
   -- ---- the reduced basis of the syzygies
 
-  module _ (list : List ModuleVector) (h : IsReducedBasis over_position 9 (IsSyzygy 9 (sector_factors p n sector)) list) where
-    element_range : (j : ℕ) → j < length list → AllKeys (IsInRange 9 (suc n)) (get_or list j [])
+  module _ (list : List ModuleVector) (h : IsReducedBasis over_position VARIABLES (IsSyzygy VARIABLES (sector_factors p n sector)) list) where
+    element_range : (j : ℕ) → j < length list → AllKeys (IsInRange VARIABLES (suc n)) (get_or list j [])
     element_range j below = in_range (get_or list j []) (h.monic j [] below).canonical (h.basis.members j [] below)
 
     -- a divisor of a term without its exponents from place n on is no element's lead
@@ -174,14 +175,14 @@ module _ (p : Polynomial) (n sector : ℕ) (few : n ≤ 9) (shape : AllKeys (Has
         let range = element_range j below in
         let is = place_is list g contained in
         let whole : divides (lead g) s ≡ true = divides-trans (lead g) (low_term n s) s divisor (low_term-divides n s) in
-        let long : length s.1 ≡ 9 = AllKeys-among (λ (t : Term). length t.1 ≡ 9) r (exponents_of r range) s among in
+        let long : length s.1 ≡ VARIABLES = AllKeys-among (λ (t : Term). length t.1 ≡ VARIABLES) r (exponents_of r range) s among in
         elim (nat_eq contained.0 j) as (λ b. nat_eq contained.0 j ≡ b → ⊥) [
           | true ↦ λ e.
               let same : contained.0 ≡ j = (unsigned_Decides contained.0 j).0 e in
               let own : g ≡ r = sym is ∙ ap (λ k. get_or list k []) same in
               let divided : divides (lead r) (low_term n s) ≡ true = subst (λ (u : ModuleVector). divides (lead u) (low_term n s) ≡ true) own divisor in
               let monic = h.monic j [] below in
-              let lead_long : length (lead r).1 ≡ 9 = (IsTerm-lead (over_position_laws 9) r monic.monic monic.terms).exponents in
+              let lead_long : length (lead r).1 ≡ VARIABLES = (IsTerm-lead (over_position_laws VARIABLES) r monic.monic monic.terms).exponents in
               let small = degree_of_divisor (lead r) (low_term n s) lead_long (length-low n s.1 ∙ long) divided in
               omega (arith, small, degree_of_lead r monic.canonical s among, sum-parts n s.1, high)
           | false ↦ λ e.
@@ -203,7 +204,7 @@ module _ (p : Polynomial) (n sector : ℕ) (few : n ≤ 9) (shape : AllKeys (Has
         let hl = part-lead n b r t among ((exponents_decide b b).1 refl) in
         let same : high_part n hl.term.1 ≡ b = (exponents_decide (high_part n hl.term.1) b).0 hl.high in
         let high : 0 < sum (high_part n hl.term.1) = subst (λ (m : List ℕ). 0 < sum m) (sym same) some in
-        let canonical = IsCanonical-part (over_position_laws 9) n b r (exponents_of r range) (h.monic j [] below).canonical in
+        let canonical = IsCanonical-part (over_position_laws VARIABLES) n b r (exponents_of r range) (h.monic j [] below).canonical in
         let d = h.basis.divisible (part n b r) canonical hl.some (part_is_syzygy b r range (h.basis.members j [] below)) in
         absurd (no_divisor j below hl.term hl.among high d.0 d.1 (subst (λ (t : Term). divides (lead d.0) t ≡ true) hl.leads d.2)))
         (none_or_some n t.1))
@@ -211,7 +212,7 @@ module _ (p : Polynomial) (n sector : ℕ) (few : n ≤ 9) (shape : AllKeys (Has
     element_member : (j : ℕ) → j < length list → IsSectorMember p n sector (get_or list j [])
     element_member j below = sector_member (get_or list j []) (element_range j below) (element_none j below) (h.basis.members j [] below)
 
-    pub sector_reduced : IsReducedBasis over_position 9 (IsSectorMember p n sector) list
+    pub sector_reduced : IsReducedBasis over_position VARIABLES (IsSectorMember p n sector) list
     sector_reduced =
         record {
           ascends = h.ascends;
@@ -223,16 +224,16 @@ module _ (p : Polynomial) (n sector : ℕ) (few : n ≤ 9) (shape : AllKeys (Has
           reduced = h.reduced;
         }
 
-    pub element_terms : (j : ℕ) → j < length list → AllKeys (λ t. IsInRange 9 (suc n) t × NoneFrom n t.1) (get_or list j [])
+    pub element_terms : (j : ℕ) → j < length list → AllKeys (λ t. IsInRange VARIABLES (suc n) t × NoneFrom n t.1) (get_or list j [])
     element_terms j below = together (get_or list j []) (element_range j below) (element_none j below)
       where
-        together : (v : ModuleVector) → AllKeys (IsInRange 9 (suc n)) v → AllKeys (λ t. NoneFrom n t.1) v → AllKeys (λ t. IsInRange 9 (suc n) t × NoneFrom n t.1) v
+        together : (v : ModuleVector) → AllKeys (IsInRange VARIABLES (suc n)) v → AllKeys (λ t. NoneFrom n t.1) v → AllKeys (λ t. IsInRange VARIABLES (suc n) t × NoneFrom n t.1) v
         together [] a b = tt
         together (t ∷ v) a b = ((a.0, b.0), together v a.1 b.1)
 
   -- The reduced basis of the module of the sector is that of all syzygies.
-  pub syzygy_reduced : (list : List ModuleVector) → IsReducedBasis over_position 9 (IsSectorMember p n sector) list
-      → IsReducedBasis over_position 9 (IsSyzygy 9 (sector_factors p n sector)) list
+  pub syzygy_reduced : (list : List ModuleVector) → IsReducedBasis over_position VARIABLES (IsSectorMember p n sector) list
+      → IsReducedBasis over_position VARIABLES (IsSyzygy VARIABLES (sector_factors p n sector)) list
   syzygy_reduced list h =
       record {
         ascends = h.ascends;
@@ -244,7 +245,7 @@ module _ (p : Polynomial) (n sector : ℕ) (few : n ≤ 9) (shape : AllKeys (Has
               let b = high_part n (lead v).1 in
               let own = own_lead n v some in
               let member = sector_member (part n b v) (part_in_range b v range) (part_none b v range) (part_is_syzygy b v range s) in
-              let d = h.basis.divisible (part n b v) (IsCanonical-part (over_position_laws 9) n b v (exponents_of v range) canonical) own.0 member in
+              let d = h.basis.divisible (part n b v) (IsCanonical-part (over_position_laws VARIABLES) n b v (exponents_of v range) canonical) own.0 member in
               let divisor = subst (λ (t : Term). divides (lead d.0) t ≡ true) own.1 d.2 in
               (d.0, d.1, divides-trans (lead d.0) (low_term n (lead v)) (lead v) divisor (low_term-divides n (lead v)));
         };

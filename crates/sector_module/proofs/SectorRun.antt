@@ -9,6 +9,7 @@ use Rattle.ibp_algebra.proofs.Combinations.{AllKeys-weaker}
 use Rattle.ibp_algebra.proofs.NormalForm.{AllKeys-normal_form}
 use Rattle.ibp_algebra.proofs.SumLaws.{SameCoefficients-sym}
 use Rattle.ibp_algebra.proofs.ZeroDivisors.{AllKeys-append}
+use Rattle.mono_order.specs.declared.limits.TheConstants.{VARIABLES}
 use Rattle.mono_order.specs.Term.{IsTerm}
 use Rattle.mono_order.specs.TermOrder.{over_position, zero_dominates, zero_high}
 use Rattle.mono_order.specs.BlockOrders.{zero_dominates_laws}
@@ -38,57 +39,57 @@ image_contained f l r h =
     let is : get_or (map f l) h.0 (f r) ≡ f r = get_or-map f l h.0 r (f r) h.1 ∙ (λ i. f (h.2 i)) in
     (h.0, omega (arith, h.1, length-map l f), is)
 
-pub generators_valid : (first : ℕ) (fs : List Polynomial) → AllByRecursion (IsPolynomialIn 9) fs → first + length fs ≤ 256 → AllByRecursion (AllKeys (IsTerm 9)) (factor_generators 9 first fs)
+pub generators_valid : (first : ℕ) (fs : List Polynomial) → AllByRecursion (IsPolynomialIn VARIABLES) fs → first + length fs ≤ 256 → AllByRecursion (AllKeys (IsTerm VARIABLES)) (factor_generators VARIABLES first fs)
 generators_valid first [] h le = tt
 generators_valid first (f ∷ fs) h le = (
-  AllKeys-append (IsTerm 9) (at_component 0 f) (unit_vector 9 first)
-      (AllKeys-map_keys (λ m. length m ≡ 9) (IsTerm 9) (λ m. (0, m)) (λ m long. record { component = lit< tt; exponents = long }) f h.0)
-      (record { component = omega (arith, le); exponents = length-ones 9 }, tt),
+  AllKeys-append (IsTerm VARIABLES) (at_component 0 f) (unit_vector VARIABLES first)
+      (AllKeys-map_keys (λ m. length m ≡ VARIABLES) (IsTerm VARIABLES) (λ m. (0, m)) (λ m long. record { component = lit< tt; exponents = long }) f h.0)
+      (record { component = omega (arith, le); exponents = length-ones VARIABLES }, tt),
   generators_valid (suc first) fs h.1 (omega (arith, le)),
 )
 
-module _ (p : Polynomial) (n sector : ℕ) (few : n ≤ 9) (shape : AllKeys (HasVariables n) p) where
-  pub polynomials : AllByRecursion (IsPolynomialIn 9) (sector_factors p n sector)
+module _ (p : Polynomial) (n sector : ℕ) (few : n ≤ VARIABLES) (shape : AllKeys (HasVariables n) p) where
+  pub polynomials : AllByRecursion (IsPolynomialIn VARIABLES) (sector_factors p n sector)
   polynomials = weaker (sector_factors p n sector) (factors_first p n sector few shape)
     where
-      weaker : (fs : List Polynomial) → AllByRecursion (AllKeys (IsInFirst 9 n)) fs → AllByRecursion (IsPolynomialIn 9) fs
+      weaker : (fs : List Polynomial) → AllByRecursion (AllKeys (IsInFirst VARIABLES n)) fs → AllByRecursion (IsPolynomialIn VARIABLES) fs
       weaker [] h = tt
-      weaker (f ∷ fs) h = (AllKeys-weaker (IsInFirst 9 n) (λ m. length m ≡ 9) (λ m h. h.exponents) f h.0, weaker fs h.1)
+      weaker (f ∷ fs) h = (AllKeys-weaker (IsInFirst VARIABLES n) (λ m. length m ≡ VARIABLES) (λ m h. h.exponents) f h.0, weaker fs h.1)
 
   pub few_factors : length (sector_factors p n sector) < 255
   few_factors = omega (arith, long_factors p n sector few shape)
 
   raw_generators : List ModuleVector
-  raw_generators = factor_generators 9 1 (sector_factors p n sector)
+  raw_generators = factor_generators VARIABLES 1 (sector_factors p n sector)
 
-  raw_valid : (r : ModuleVector) → Contains raw_generators r → AllKeys (IsTerm 9) r
+  raw_valid : (r : ModuleVector) → Contains raw_generators r → AllKeys (IsTerm VARIABLES) r
   unfolding raw_generators
   raw_valid r h =
-      All-contains (AllKeys (IsTerm 9)) raw_generators r
-      (All-from_recursion (AllKeys (IsTerm 9)) raw_generators (generators_valid 1 (sector_factors p n sector) polynomials (omega (arith, long_factors p n sector few shape)))) h
+      All-contains (AllKeys (IsTerm VARIABLES)) raw_generators r
+      (All-from_recursion (AllKeys (IsTerm VARIABLES)) raw_generators (generators_valid 1 (sector_factors p n sector) polynomials (omega (arith, long_factors p n sector few shape)))) h
 
   -- the canonical generators generate the same module
-  same_module : (v : ModuleVector) → IsMember 9 (sector_generators p n sector) v ↔ IsMember 9 raw_generators v
+  same_module : (v : ModuleVector) → IsMember VARIABLES (sector_generators p n sector) v ↔ IsMember VARIABLES raw_generators v
   unfolding raw_generators
   same_module v =
       let raw = raw_generators in
       let normal = normal_form zero_dominates in
       let gs = map normal raw in (
-        IsMember-least 9 gs (IsMember 9 raw) (IsSubmodule-IsMember 9 raw) (λ g h.
+        IsMember-least VARIABLES gs (IsMember VARIABLES raw) (IsSubmodule-IsMember VARIABLES raw) (λ g h.
             let image = contained_image normal raw g h in
             let r = image.0 in
-            let same = SameVector-normal (zero_dominates_laws 9) g r (sym image.2) in
-            IsMember-same 9 raw r g (SameCoefficients-sym same) (IsMember-generator 9 raw r image.1 (raw_valid r image.1))) v,
-        IsMember-least 9 raw (IsMember 9 gs) (IsSubmodule-IsMember 9 gs) (λ r h.
-            let valid = AllKeys-normal_form zero_dominates (zero_dominates_laws 9).total (zero_dominates_laws 9).unique (IsTerm 9) r (raw_valid r h) in
-            IsMember-same 9 gs (normal r) r (SameVector-normal (zero_dominates_laws 9) (normal r) r refl)
-            (IsMember-generator 9 gs (normal r) (image_contained normal raw r h) valid)) v,
+            let same = SameVector-normal (zero_dominates_laws VARIABLES) g r (sym image.2) in
+            IsMember-same VARIABLES raw r g (SameCoefficients-sym same) (IsMember-generator VARIABLES raw r image.1 (raw_valid r image.1))) v,
+        IsMember-least VARIABLES raw (IsMember VARIABLES gs) (IsSubmodule-IsMember VARIABLES gs) (λ r h.
+            let valid = AllKeys-normal_form zero_dominates (zero_dominates_laws VARIABLES).total (zero_dominates_laws VARIABLES).unique (IsTerm VARIABLES) r (raw_valid r h) in
+            IsMember-same VARIABLES gs (normal r) r (SameVector-normal (zero_dominates_laws VARIABLES) (normal r) r refl)
+            (IsMember-generator VARIABLES gs (normal r) (image_contained normal raw r h) valid)) v,
       )
 
-  pub run_reduced : (elements list : List ModuleVector) → IsGroebnerBasis zero_dominates (IsMember 9 (sector_generators p n sector)) elements
-      → IsReducedLowBasis zero_dominates 9 zero_high elements list → IsReducedBasis over_position 9 (IsSyzygy 9 (sector_factors p n sector)) list
+  pub run_reduced : (elements list : List ModuleVector) → IsGroebnerBasis zero_dominates (IsMember VARIABLES (sector_generators p n sector)) elements
+      → IsReducedLowBasis zero_dominates VARIABLES zero_high elements list → IsReducedBasis over_position VARIABLES (IsSyzygy VARIABLES (sector_factors p n sector)) list
   unfolding raw_generators
   run_reduced elements list groebner reduced =
-      syzygy_basis 9 (sector_factors p n sector) polynomials few_factors list
-      (IsReducedBasis-members zero_dominates 9 (IsLowMember zero_high (IsMember 9 (sector_generators p n sector))) (IsLowMember zero_high (IsMember 9 raw_generators))
+      syzygy_basis VARIABLES (sector_factors p n sector) polynomials few_factors list
+      (IsReducedBasis-members zero_dominates VARIABLES (IsLowMember zero_high (IsMember VARIABLES (sector_generators p n sector))) (IsLowMember zero_high (IsMember VARIABLES raw_generators))
       (λ v. (λ h. ((same_module v).0 h.0, h.1), λ h. ((same_module v).1 h.0, h.1))) list (reduced (sector_generators p n sector) groebner))

@@ -9,7 +9,7 @@ use Rattle.ibp_algebra.specs.ExponentOrder.{exponents_decide, deg_rev_lex_total,
 use Rattle.ibp_algebra.specs.Polynomial.{Polynomial}
 use Rattle.ibp_algebra.proofs.Combinations.{AllKeys-weaker}
 use Rattle.ibp_algebra.proofs.NormalForm.{IsCanonical-normal_form, AllKeys-normal_form, SameCoefficients-normal_form}
-use Rattle.mono_order.specs.declared.limits.TheConstants.{RUN_DEGREE}
+use Rattle.mono_order.specs.declared.limits.TheConstants.{RUN_DEGREE, VARIABLES}
 use Rattle.mono_order.specs.Term.{Term, IsTerm}
 use Rattle.mono_order.specs.TermOrder.{over_position, zero_dominates}
 use Rattle.mono_order.specs.BlockOrders.{zero_dominates_laws}
@@ -34,14 +34,14 @@ use Rattle.sector_module.proofs.SectorRun.{generators_valid, polynomials, run_re
 
 -- ---- the generators
 
-generators_are : (first : ℕ) (fs : List Polynomial) → 0 < first → AllByRecursion (AllKeys (IsTerm 9)) (factor_generators 9 first fs)
-    → AllByRecursion (λ g. IsVector zero_dominates 9 g × (g ≢ [])) (map (normal_form zero_dominates) (factor_generators 9 first fs))
+generators_are : (first : ℕ) (fs : List Polynomial) → 0 < first → AllByRecursion (AllKeys (IsTerm VARIABLES)) (factor_generators VARIABLES first fs)
+    → AllByRecursion (λ g. IsVector zero_dominates VARIABLES g × (g ≢ [])) (map (normal_form zero_dominates) (factor_generators VARIABLES first fs))
 generators_are first [] some valid = tt
 generators_are first (f ∷ fs) some valid = (
   (
     record {
-      canonical = IsCanonical-normal_form zero_dominates (zero_dominates_laws 9).total (zero_dominates_laws 9).unique (factor_generator 9 first f);
-      terms = AllKeys-normal_form zero_dominates (zero_dominates_laws 9).total (zero_dominates_laws 9).unique (IsTerm 9) (factor_generator 9 first f) valid.0;
+      canonical = IsCanonical-normal_form zero_dominates (zero_dominates_laws VARIABLES).total (zero_dominates_laws VARIABLES).unique (factor_generator VARIABLES first f);
+      terms = AllKeys-normal_form zero_dominates (zero_dominates_laws VARIABLES).total (zero_dominates_laws VARIABLES).unique (IsTerm VARIABLES) (factor_generator VARIABLES first f) valid.0;
     },
     generator_some first f some,
   ),
@@ -119,29 +119,29 @@ pub record IsMemberField (p : Polynomial) (n sector : ℕ) (field : StrippedFiel
   pub count : length field.c ≡ n
   pub member : IsInSectorModule p sector field
 
-module _ (p : Polynomial) (n sector : ℕ) (few : n ≤ 9) (shape : AllKeys (HasVariables n) p) (pairs : ℕ) where
-  all_generators : All (λ g. IsVector zero_dominates 9 g × (g ≢ [])) (sector_generators p n sector)
+module _ (p : Polynomial) (n sector : ℕ) (few : n ≤ VARIABLES) (shape : AllKeys (HasVariables n) p) (pairs : ℕ) where
+  all_generators : All (λ g. IsVector zero_dominates VARIABLES g × (g ≢ [])) (sector_generators p n sector)
   all_generators =
-      All-from_recursion (λ g. IsVector zero_dominates 9 g × (g ≢ [])) (sector_generators p n sector)
+      All-from_recursion (λ g. IsVector zero_dominates VARIABLES g × (g ≢ [])) (sector_generators p n sector)
       (generators_are 1 (sector_factors p n sector) (omega arith) (generators_valid 1 (sector_factors p n sector) (polynomials p n sector few shape) (omega (arith, long_factors p n sector few shape))))
 
-  vectors : All (IsVector zero_dominates 9) (sector_generators p n sector)
-  vectors = All-weaker (λ g. IsVector zero_dominates 9 g × (g ≢ [])) (IsVector zero_dominates 9) (λ g h. h.0) (sector_generators p n sector) all_generators
+  vectors : All (IsVector zero_dominates VARIABLES) (sector_generators p n sector)
+  vectors = All-weaker (λ g. IsVector zero_dominates VARIABLES g × (g ≢ [])) (IsVector zero_dominates VARIABLES) (λ g h. h.0) (sector_generators p n sector) all_generators
 
   not_zero : All (λ g. g ≢ []) (sector_generators p n sector)
-  not_zero = All-weaker (λ g. IsVector zero_dominates 9 g × (g ≢ [])) (λ g. g ≢ []) (λ g h. h.1) (sector_generators p n sector) all_generators
+  not_zero = All-weaker (λ g. IsVector zero_dominates VARIABLES g × (g ≢ [])) (λ g. g ≢ []) (λ g h. h.1) (sector_generators p n sector) all_generators
 
   pub some_run_end : (end : RunEnd) × SectorRunEnds p n sector pairs end
-  some_run_end = run_ends (zero_dominates_laws 9) (sector_generators p n sector) vectors not_zero RUN_DEGREE pairs
+  some_run_end = run_ends (zero_dominates_laws VARIABLES) (sector_generators p n sector) vectors not_zero RUN_DEGREE pairs
 
   pub some_sector_basis : (elements : List ModuleVector) (taken : ℕ) → SectorRunEnds p n sector pairs (Done elements taken) → (fields : List StrippedField) × IsSectorBasis p n sector fields × All (IsMemberField p n sector) fields
   some_sector_basis elements taken run =
       let gs = sector_generators p n sector in
-      let monic = run_monic (zero_dominates_laws 9) gs vectors not_zero RUN_DEGREE pairs elements taken run in
-      let groebner = run_groebner (zero_dominates_laws 9) gs vectors not_zero RUN_DEGREE pairs elements taken run in
-      let low = some_reduced_low (zero_dominates_laws 9) elements monic in
+      let monic = run_monic (zero_dominates_laws VARIABLES) gs vectors not_zero RUN_DEGREE pairs elements taken run in
+      let groebner = run_groebner (zero_dominates_laws VARIABLES) gs vectors not_zero RUN_DEGREE pairs elements taken run in
+      let low = some_reduced_low (zero_dominates_laws VARIABLES) elements monic in
       let list = low.0 in
-      let h : IsReducedBasis over_position 9 (IsSyzygy 9 (sector_factors p n sector)) list = run_reduced p n sector few shape elements list groebner low.1 in
+      let h : IsReducedBasis over_position VARIABLES (IsSyzygy VARIABLES (sector_factors p n sector)) list = run_reduced p n sector few shape elements list groebner low.1 in
       let bound = degrees_bound list in
       let fields = map (field_from n) list in
       let zip = fields_are bound.0 n list bound.1 in

@@ -8,17 +8,18 @@ use Rattle.ibp_algebra.specs.Exponents.{add_exponents}
 use Rattle.ibp_algebra.specs.Polynomial.{Polynomial, multiply, derivative}
 use Rattle.ibp_algebra.specs.Field.{unit_exponents, variable}
 use Rattle.ibp_algebra.proofs.ZeroDivisors.{AllKeys-append, AllKeys-scale}
+use Rattle.mono_order.specs.declared.limits.TheConstants.{VARIABLES}
 use Rattle.family.specs.Shapes.{HasVariables}
 use Rattle.sector_module.specs.Factors.{factors_from}
 use Rattle.sector_module.proofs.Fields.{length-unit, length-padded_sum-shorter}
 use Rattle.sector_module.proofs.Splitting.{NoneFrom, NoneFrom-from_places, places-from_NoneFrom}
 use Rattle.sector_module.proofs.Parts.{IsInFirst}
 
-pub IsInFirst-from_HasVariables : (n : ℕ) (m : List ℕ) → HasVariables n m → IsInFirst 9 n m
-IsInFirst-from_HasVariables n m h = record { exponents = h.nine; none = NoneFrom-from_places n m h.none_beyond }
+pub IsInFirst-from_HasVariables : (n : ℕ) (m : List ℕ) → HasVariables n m → IsInFirst VARIABLES n m
+IsInFirst-from_HasVariables n m h = record { exponents = h.each_variable; none = NoneFrom-from_places n m h.none_beyond }
 
-pub HasVariables-from_IsInFirst : (n : ℕ) (m : List ℕ) → IsInFirst 9 n m → HasVariables n m
-HasVariables-from_IsInFirst n m h = record { nine = h.exponents; none_beyond = places-from_NoneFrom n m h.none }
+pub HasVariables-from_IsInFirst : (n : ℕ) (m : List ℕ) → IsInFirst VARIABLES n m → HasVariables n m
+HasVariables-from_IsInFirst n m h = record { each_variable = h.exponents; none_beyond = places-from_NoneFrom n m h.none }
 
 NoneFrom-set : (n i y : ℕ) (m : List ℕ) → i < n → NoneFrom n m → NoneFrom n (set m i y)
 NoneFrom-set zero i y m below h = absurd (omega arith)

@@ -1,5 +1,5 @@
 -- The reduced basis of the module K_S of a sector. The fields of K_S range over polynomials in z_1 to z_n: a
--- monomial has nine exponents, of which those from place n on are zero.
+-- monomial has an exponent for each variable of `Monomial`, of which those from place n on are zero.
 -- The module is that of the module intersection method (Boehm, Georgoudis, Larsen, Schoenemann, Zhang); reduced
 -- Groebner bases of submodules of free modules are textbook theory (Buchberger).
 --     vector_of first fs             the vector with these polynomials at the components from `first` on

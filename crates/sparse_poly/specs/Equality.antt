@@ -1,6 +1,6 @@
 -- Equality of polynomials: their terms are equal one by one.
 -- Source: textbook algebra, where a polynomial has one list of terms in descending order.
-use Rattle.std.proofs.Common.{◌≡◌, ℕ, List, sum, Bool, ◌&&◌, ap}
+use Rattle.std.proofs.Common.{◌≡◌, ℕ, List, Bool, ◌&&◌}
 use Rattle.std.specs.Prelude.{nat_eq}
 use Rattle.std.specs.Bool.{Decides}
 use Rattle.std.specs.Cmp.{IsEquivalence, decided, unsigned_Decides}
@@ -10,20 +10,14 @@ use Rattle.ibp_algebra.specs.Exponents.{same_exponents}
 use Rattle.ibp_algebra.specs.ExponentOrder.{exponents_decide}
 use Rattle.ibp_algebra.specs.Polynomial.{Polynomial}
 
-abbrev pub one_monomial : List ℕ → List ℕ → Bool
-one_monomial a b = nat_eq (sum a) (sum b) && same_exponents a b
-
 abbrev pub one_term : List ℕ × ℕ → List ℕ × ℕ → Bool
-one_term a b = one_monomial a.0 b.0 && nat_eq a.1 b.1
+one_term a b = same_exponents a.0 b.0 && nat_eq a.1 b.1
 
 abbrev pub one_polynomial : Polynomial → Polynomial → Bool
 one_polynomial = pointwise one_term
 
-monomials_decide : (a b : List ℕ) → Decides (one_monomial a b) (a ≡ b)
-monomials_decide a b = Decides-like _ (λ e. e.1) (λ e. (ap sum e, e)) (Decides-and _ _ (unsigned_Decides (sum a) (sum b)) (exponents_decide a b))
-
 terms_decide : (a b : List ℕ × ℕ) → Decides (one_term a b) (a ≡ b)
-terms_decide a b = Decides-like _ (λ e i. (e.0 i, e.1 i)) (λ e. ((λ i. (e i).0), (λ i. (e i).1))) (Decides-and _ _ (monomials_decide a.0 b.0) (unsigned_Decides a.1 b.1))
+terms_decide a b = Decides-like _ (λ e i. (e.0 i, e.1 i)) (λ e. ((λ i. (e i).0), (λ i. (e i).1))) (Decides-and _ _ (exponents_decide a.0 b.0) (unsigned_Decides a.1 b.1))
 
 -- polynomials are equal where `==` says so
 pub one_polynomial-Decides : (f g : Polynomial) → Decides (one_polynomial f g) (f ≡ g)

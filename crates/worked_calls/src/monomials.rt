@@ -27,7 +27,7 @@ fn multiples_divisors_and_quotients(rt: HostRuntime) {
 
 #[test]
 fn the_degree_has_a_limit(rt: HostRuntime) {
-    let most = monomial(&rt, 300, 0, 0);
+    let most = monomial(&rt, 1050, 0, 0);
     assert_eq!(rt; most.times(&Monomial::variable(1)), None);
     assert_eq!(rt; most.times(&Monomial::one()), Some(most));
     assert_eq!(rt; most.lcm(&Monomial::variable(2)), None);

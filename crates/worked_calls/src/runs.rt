@@ -76,8 +76,8 @@ fn the_run_of_a_plane_takes_four_pairs(rt: HostRuntime) -> Result<(), Fail> {
 #[test]
 fn a_pair_above_the_degree_of_a_run_ends_it(rt: HostRuntime) -> Result<(), Fail> {
     let alloc = rt.alloc();
-    let first = generator(&rt, alloc, &[(0, 200, 0, 1), (1, 0, 0, 1)])?;
-    let second = generator(&rt, alloc, &[(0, 0, 200, 1), (2, 0, 0, 1)])?;
+    let first = generator(&rt, alloc, &[(0, 600, 0, 1), (1, 0, 0, 1)])?;
+    let second = generator(&rt, alloc, &[(0, 0, 600, 1), (2, 0, 0, 1)])?;
     let over = plain_run(alloc, &[first, second], 10);
     assert!(rt; matches!(over, Err(BasisFault::DegreeOver)));
     Ok(())

@@ -18,8 +18,8 @@ fn an_integral_tells_its_powers(rt: HostRuntime) {
     assert_eq!(rt; found.sector(), Sector(5));
     assert_eq!(rt; (found.dots(), found.rank()), (2, 2));
     assert!(rt; Integral::new(&[]).is_none());
-    assert!(rt; Integral::new(&[0, -601]).is_none());
-    assert!(rt; Integral::new(&[1; 10]).is_none());
+    assert!(rt; Integral::new(&[0, -1201]).is_none());
+    assert!(rt; Integral::new(&[1; 13]).is_none());
 }
 
 #[test]

@@ -10,7 +10,7 @@ use sparse_poly::Poly;
 use sparse_rows::Row;
 
 // A term of a vector is small.
-const _: () = prove!(size_of::<(Term, Residue)>() <= 28);
+const _: () = prove!(size_of::<(Term, Residue)>() <= 32);
 
 fn is_shared<T: Send + Sync>() {}
 

@@ -1,5 +1,6 @@
 use ibp_field::Residue;
-use poly_text::{Numbers, TextFault, is_number_name, parse_poly, read_number};
+use mono_order::VARIABLES;
+use poly_text::{Numbers, TextFault, Unread, is_number_name, parse_poly, read_number, read_poly};
 use sparse_poly::Poly;
 use std::alloc::Global;
 use std::process::Abort;
@@ -23,7 +24,7 @@ fn fault_of(
     numbers: &Numbers,
 ) -> Result<usize, TextFault> {
     assert!(rt; text.len() < 1000);
-    assert!(rt; n <= 9);
+    assert!(rt; n as usize <= VARIABLES);
     let poly = parse_poly(alloc, text, n, numbers)?;
     Ok(poly.terms().len())
 }
@@ -130,6 +131,28 @@ fn texts_have_their_first_fault(rt: HostRuntime) -> Result<(), Fail> {
         assert_eq!(rt;
             fault_of(&rt, rt.alloc(), text, 2, &numbers),
             Err(fault),
+            "at {text}"
+        );
+    }
+    let unread = read_poly(rt.alloc(), "1/0", 2, &numbers);
+    assert!(rt; matches!(unread, Err(Unread::Fault)));
+    Ok(())
+}
+
+#[test]
+fn variables_are_known_up_to_the_last_one(rt: HostRuntime) -> Result<(), Fail> {
+    let numbers = Numbers::empty(rt.alloc());
+    let rows = [
+        ("z1 + z9 + z10 + z12", 12, Ok(4)),
+        ("z12", 11, Err(TextFault::UnknownName { at: 0 })),
+        ("z13", 12, Err(TextFault::UnknownName { at: 0 })),
+        ("z010", 12, Err(TextFault::UnknownName { at: 0 })),
+        ("1*z100", 12, Err(TextFault::UnknownName { at: 2 })),
+    ];
+    for (text, n, answer) in rows {
+        assert_eq!(rt;
+            fault_of(&rt, rt.alloc(), text, n, &numbers),
+            answer,
             "at {text}"
         );
     }

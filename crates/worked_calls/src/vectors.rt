@@ -2,6 +2,7 @@
 ghost use Rattle.std.specs.Prelude.{◌≡◌, IfOk};
 ghost use Rattle.module_vec.specs.ModuleVector.{IsMonic, lead};
 
+use fast_division::{BucketSum, index_leads, normal_form_fast};
 use ibp_field::Residue;
 use module_division::{normal_form, s_vector};
 use module_vec::{Vector, VectorFault};
@@ -99,13 +100,13 @@ fn a_multiple_is_subtracted_and_the_rest_made_monic(rt: HostRuntime) -> Result<(
 fn the_degree_of_a_run_is_kept(rt: HostRuntime) -> Result<(), Fail> {
     let alloc = rt.alloc();
     let z1 = Monomial::variable(1);
-    let most = vector::<OverPosition>(&rt, alloc, &[(1, 250, 0, 1)]);
+    let most = vector::<OverPosition>(&rt, alloc, &[(1, 1000, 0, 1)]);
     let none = vector::<OverPosition>(&rt, alloc, &[]);
     assert!(rt; none.lead().is_none());
     assert!(rt; matches!(most.shift(alloc, &z1), Err(VectorFault::DegreeOver)));
     let over = none.sub_multiple(alloc, Residue::one(), &z1, &most);
     assert!(rt; matches!(over, Err(VectorFault::DegreeOver)));
-    let over = terms(&rt, alloc, &[(1, 250, 1, 1), (1, 250, 1, -1)]);
+    let over = terms(&rt, alloc, &[(1, 1000, 1, 1), (1, 1000, 1, -1)]);
     let over = Vector::<OverPosition>::from_terms(alloc, &over);
     assert!(rt; matches!(over, Err(VectorFault::DegreeOver)));
     Ok(())
@@ -132,9 +133,13 @@ fn the_sixth_element_of_a_run_is_found(rt: HostRuntime) -> Result<(), Fail> {
     let difference = s_vector(alloc, &fourth, &fifth)?;
     let wanted = [(1, 1, 0, -1), (1, 0, 1, -1), (2, 1, 0, -1), (3, 1, 0, -1)];
     assert!(rt; difference.terms() == vector::<ZeroDominates>(&rt, alloc, &wanted).terms());
-    let rest = normal_form(alloc, &difference, &[first, second, third, fourth, fifth])?;
+    let list = [first, second, third, fourth, fifth];
+    let rest = normal_form(alloc, &difference, &list)?;
     let wanted = [(1, 1, 0, -1), (1, 0, 1, -1), (3, 1, 0, -1), (1, 0, 0, -1)];
     assert!(rt; rest.terms() == vector::<ZeroDominates>(&rt, alloc, &wanted).terms());
+    let index = index_leads(alloc, &list)?;
+    let fast = normal_form_fast(alloc, &difference, &list, &index)?;
+    assert!(rt; fast.terms() == rest.terms());
     assert!(rt; rest.lead().is_some());
     let sixth = [(1, 1, 0, 1), (1, 0, 1, 1), (3, 1, 0, 1), (1, 0, 0, 1)];
     assert!(rt; rest.monic(alloc)?.terms() == vector::<ZeroDominates>(&rt, alloc, &sixth).terms());
@@ -142,14 +147,31 @@ fn the_sixth_element_of_a_run_is_found(rt: HostRuntime) -> Result<(), Fail> {
 }
 
 #[test]
+fn partial_sums_give_their_lead(rt: HostRuntime) -> Result<(), Fail> {
+    let alloc = rt.alloc();
+    let first = vector::<ZeroDominates>(&rt, alloc, &FIRST);
+    let second = vector::<ZeroDominates>(&rt, alloc, &SECOND);
+    let mut sum = BucketSum::from(alloc, &first)?;
+    sum.sub_multiple(Residue::one(), &Monomial::variable(1), &second)?;
+    assert!(rt; sum.take_lead() == Some(term(&rt, (2, 1, 0, -1))));
+    assert!(rt; sum.take_lead() == Some(term(&rt, (1, 0, 0, 1))));
+    assert!(rt; sum.take_lead().is_none());
+    Ok(())
+}
+
+#[test]
 fn a_division_and_a_difference_may_be_over_the_degree(rt: HostRuntime) -> Result<(), Fail> {
     let alloc = rt.alloc();
     let divisor = monic(&rt, alloc, 0, &[(0, 1, 0, 1), (1, 0, 2, 1)])?;
-    let power = vector(&rt, alloc, &[(0, 250, 0, 1)]);
-    let over = normal_form(alloc, &power, &[divisor]);
+    let power = vector(&rt, alloc, &[(0, 1000, 0, 1)]);
+    let list = [divisor];
+    let over = normal_form(alloc, &power, &list);
     assert!(rt; matches!(over, Err(VectorFault::DegreeOver)));
-    let left = monic(&rt, alloc, 0, &[(0, 200, 0, 1), (1, 0, 0, 1)])?;
-    let right = monic(&rt, alloc, 0, &[(0, 0, 200, 1), (2, 0, 0, 1)])?;
+    let index = index_leads(alloc, &list)?;
+    let over = normal_form_fast(alloc, &power, &list, &index);
+    assert!(rt; matches!(over, Err(VectorFault::DegreeOver)));
+    let left = monic(&rt, alloc, 0, &[(0, 600, 0, 1), (1, 0, 0, 1)])?;
+    let right = monic(&rt, alloc, 0, &[(0, 0, 600, 1), (2, 0, 0, 1)])?;
     let over = s_vector(alloc, &left, &right);
     assert!(rt; matches!(over, Err(VectorFault::DegreeOver)));
     Ok(())

@@ -15,9 +15,9 @@ const STATUSES: [(Status, u8, &str); 11] = [
     (Status::PairsSpent(Sector(2)), 6, "pairs spent in sector 2"),
     (Status::DegreeOver(Sector(3)), 7, "degree over in sector 3"),
     (
-        Status::CandidatesOver(Sector(511)),
+        Status::CandidatesOver(Sector(4095)),
         8,
-        "candidates over in sector 511",
+        "candidates over in sector 4095",
     ),
     (Status::WriteFault, 9, "write fault"),
     (Status::NoMemory, 10, "no memory"),

@@ -7,11 +7,11 @@ use Rattle.family_file.proofs.sectors.collect_places.Goals as goal
 pub returns-in_err-place_in : goal.returns-in_err-place_in
 returns-in_err-place_in c =
     let p = err_from_is_err_and c.from_residual.result c.from_residual.ensures.1 in
-    rw (p.1, p.2) (stops view (place_in c.args.n) c.loop-value.places.items c.args.values.now c.loop-value.value-index c.value-item.result _ _ c.loop-value-test.true c.value-item.is c.in_err-place_in.ensures c.loop-value.invariant)
+    rw (p.1, p.2) (stops view (place_in c.args.fault c.args.n) c.loop-value.places.items c.args.values.now c.loop-value.value-index c.value-item.result _ _ c.loop-value-test.true c.value-item.is c.in_err-place_in.ensures c.loop-value.invariant)
 
 pub loop-value-preserved : goal.loop-value-preserved
 loop-value-preserved c =
-    rw c.in_ok-push.ensures.items (goes_on view (place_in c.args.n) c.loop-value.places.items c.args.values.now c.loop-value.value-index c.value-item.result _ _ c.loop-value-test.true c.value-item.is c.in_ok-place_in.ensures c.loop-value.invariant)
+    rw c.in_ok-push.ensures.items (goes_on view (place_in c.args.fault c.args.n) c.loop-value.places.items c.args.values.now c.loop-value.value-index c.value-item.result _ _ c.loop-value-test.true c.value-item.is c.in_ok-place_in.ensures c.loop-value.invariant)
 
 pub returns : goal.returns
-returns c = is_done view (place_in c.args.n) c.loop-value.places.items c.args.values.now c.loop-value.value-index _ c.loop-value-test.false c.loop-value.invariant
+returns c = is_done view (place_in c.args.fault c.args.n) c.loop-value.places.items c.args.values.now c.loop-value.value-index _ c.loop-value-test.false c.loop-value.invariant

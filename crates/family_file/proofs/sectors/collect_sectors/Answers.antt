@@ -1,5 +1,6 @@
 use Rattle.std.proofs.lemmas.Result.{err_from_is_err_and}
 use Rattle.toml.specs.View.{view}
+use Rattle.family_file.specs.declared.fault.FileFault.TheVariants.{ZeroSectors}
 use Rattle.family_file.specs.Arrays.{sector_in}
 use Rattle.family_file.proofs.Collect.{goes_on, fails, is_done}
 use Rattle.family_file.proofs.sectors.collect_sectors.Goals as goal
@@ -7,11 +8,11 @@ use Rattle.family_file.proofs.sectors.collect_sectors.Goals as goal
 pub returns-in_err-sector_in : goal.returns-in_err-sector_in
 returns-in_err-sector_in c =
     let p = err_from_is_err_and c.from_residual.result c.from_residual.ensures.1 in
-    rw (p.1, p.2) (fails view (sector_in c.args.n) c.loop-value.sectors.items c.args.values.now c.loop-value.value-index c.value-item.result _ _ c.loop-value-test.true c.value-item.is c.in_err-sector_in.ensures c.loop-value.invariant)
+    rw (p.1, p.2) (fails view (sector_in ZeroSectors c.args.n) c.loop-value.sectors.items c.args.values.now c.loop-value.value-index c.value-item.result _ _ c.loop-value-test.true c.value-item.is c.in_err-sector_in.ensures c.loop-value.invariant)
 
 pub loop-value-preserved : goal.loop-value-preserved
 loop-value-preserved c =
-    rw c.in_ok-push.ensures.items (goes_on view (sector_in c.args.n) c.loop-value.sectors.items c.args.values.now c.loop-value.value-index c.value-item.result _ _ c.loop-value-test.true c.value-item.is c.in_ok-sector_in.ensures c.loop-value.invariant)
+    rw c.in_ok-push.ensures.items (goes_on view (sector_in ZeroSectors c.args.n) c.loop-value.sectors.items c.args.values.now c.loop-value.value-index c.value-item.result _ _ c.loop-value-test.true c.value-item.is c.in_ok-sector_in.ensures c.loop-value.invariant)
 
 pub returns : goal.returns
-returns c = is_done view (sector_in c.args.n) c.loop-value.sectors.items c.args.values.now c.loop-value.value-index _ c.loop-value-test.false c.loop-value.invariant
+returns c = is_done view (sector_in ZeroSectors c.args.n) c.loop-value.sectors.items c.args.values.now c.loop-value.value-index _ c.loop-value-test.false c.loop-value.invariant

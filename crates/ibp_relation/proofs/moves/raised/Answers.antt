@@ -6,7 +6,7 @@ use Rattle.sector_lattice.specs.Ranges.{InRange}
 use Rattle.ibp_relation.proofs.Powers.{raised_copy, raised_power, raised_in_range}
 use Rattle.ibp_relation.proofs.moves.raised.Goals as goal
 
--- what stays of the nine places
+-- what stays of the places
 abbrev rest : ℕ → List ℤ
 rest n = drop n (replicate VARIABLES (pos 0))
 

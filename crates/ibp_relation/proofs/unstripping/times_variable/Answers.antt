@@ -30,6 +30,6 @@ returns c =
     (subst (λ n. SamePolynomial factor ((c.variable.result, n) ∷ [])) c.one.ensures c.in_ok-factor.ensures.sum)
     in
     elim c.product.result as (λ r. IfOk r (IsCanonical deg_rev_lex) → IfOk r (λ p. SamePolynomial p (multiply factor c.args.poly.now)) → IfOk r (λ p. p ≡ multiply (variable place) c.args.poly.now)) [
-      | Ok moved ↦ λ canonical product. product_by_variable place factor moved c.args.poly.now within same c.requires.nine c.requires.degree c.requires.canonical canonical product
+      | Ok moved ↦ λ canonical product. product_by_variable place factor moved c.args.poly.now within same c.requires.each_variable c.requires.degree c.requires.canonical canonical product
       | Err fault ↦ λ canonical product. tt
     ] c.product.ensures.canonical c.product.ensures.product

@@ -3,11 +3,11 @@ use Rattle.std.specs.Prelude.{pos, ◌<ℤ◌, ◌≤ℤ◌}
 use Rattle.std.proofs.lemmas.Int.{ints}
 use Rattle.std.proofs.lemmas.Result.{IfOk-weaker}
 use Rattle.mono_order.specs.declared.limits.TheConstants.{RUN_DEGREE}
-use Rattle.ibp_relation.proofs.UnstrippedForms.{nine_exponents, inside_factor, outside_factor}
+use Rattle.ibp_relation.proofs.UnstrippedForms.{full_exponents, inside_factor, outside_factor}
 use Rattle.ibp_relation.proofs.unstripping.with_factor.Goals as goal
 
-pub times_variable-requires-clause-nine : goal.times_variable-requires-clause-nine
-times_variable-requires-clause-nine c = nine_exponents (length c.args.seed.now) RUN_DEGREE c.args.poly.now c.requires.polynomial
+pub times_variable-requires-clause-each_variable : goal.times_variable-requires-clause-each_variable
+times_variable-requires-clause-each_variable c = full_exponents (length c.args.seed.now) RUN_DEGREE c.args.poly.now c.requires.polynomial
 
 pub returns-then-power-gt0 : goal.returns-then-power-gt0
 returns-then-power-gt0 c =

@@ -1,4 +1,6 @@
 use Rattle.std.proofs.Common.{◌≡◌, ◌*◌, ◌^◌, ◌≤◌, length, sym, ◌∙◌, ap, subst, arith}
+use Rattle.mono_order.specs.declared.limits.TheConstants.{VARIABLES}
+use Rattle.family.specs.declared.limits.TheConstants.{CANDIDATE_LIMIT}
 use Rattle.family.specs.FamilyData.{FamilyData}
 use Rattle.family.specs.FamilyView.{family_view}
 use Rattle.sector_job.specs.Results.{opening_of}
@@ -27,8 +29,8 @@ system_of-requires-clause-few c =
     let family = c.family-family.result.now in
     let gathers = c.in_ok-gathered.ensures in
     let powers : c.args.state.now.n ≡ family.n = c.plan.ensures.powers ∙ ap (λ p. (opening_of p).n) (sym c.family-family.ensures) in
-    let pieces : length c.pieces-2.result.now ≤ 512 = few_pieces (family_view family) family.limits (length c.pieces-2.result.now) (subst (λ n. length c.pieces-2.result.now ≤ 2 ^ n) powers c.pieces-2.ensures.few) in
-    let few : length (all_candidates gathers.works) ≤ 20000 * length c.pieces-2.result.now = few_candidates (family_view family) family.limits c.pieces-2.result.now gathers.works gathers.are_works in
+    let pieces : length c.pieces-2.result.now ≤ 2 ^ VARIABLES = few_pieces (family_view family) family.limits (length c.pieces-2.result.now) (subst (λ n. length c.pieces-2.result.now ≤ 2 ^ n) powers c.pieces-2.ensures.few) in
+    let few : length (all_candidates gathers.works) ≤ CANDIDATE_LIMIT * length c.pieces-2.result.now = few_candidates (family_view family) family.limits c.pieces-2.result.now gathers.works gathers.are_works in
     let same : length c.in_ok-gathered.gathered.candidates.items ≡ length (all_candidates gathers.works) = ap length gathers.candidates in
     omega (arith, pieces, few, same)
 

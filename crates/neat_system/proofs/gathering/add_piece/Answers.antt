@@ -1,6 +1,7 @@
 use Rattle.std.proofs.Common.{◌≡◌, ◌∷◌, [], ◌++◌, ◌*◌, ◌<◌, ◌≤◌, ◌^◌, length, sym, ◌∙◌, ap, subst, arith}
 use Rattle.family.specs.FamilyView.{family_view}
 use Rattle.family.specs.FamilyData.{FamilyData}
+use Rattle.family.specs.declared.limits.TheConstants.{CANDIDATE_LIMIT}
 use Rattle.system_text.specs.declared.value.SectorBlock.{SectorBlock}
 use Rattle.neat_system.proofs.GatheredWorks.{piece_work}
 use Rattle.neat_system.proofs.Lengths.{sector_fits, few_in_all}
@@ -21,7 +22,7 @@ add_labels-requires c =
     piece_work (family_view family) c.args.piece.now c.outcome.result.now c.in-Worked.generators c.in-Worked.candidates c.in-Worked.tails c.in_ok-seeds.seeds c.targets.result.now c.sector.result.0
     c.requires.family c.outcome.ensures.outcome c.in-Worked.is c.sector.ensures c.targets.ensures c.in_ok-seeds.ensures
     in
-    let few : length c.fields.result.now * length c.as_slice.result.now ≤ 20000 = few_in_all (family_view family) family.limits c.args.piece.now _ work c.fields.result.now c.as_slice.result.now c.fields.ensures c.as_slice.ensures in
+    let few : length c.fields.result.now * length c.as_slice.result.now ≤ CANDIDATE_LIMIT = few_in_all (family_view family) family.limits c.args.piece.now _ work c.fields.result.now c.as_slice.result.now c.fields.ensures c.as_slice.ensures in
     record { few = omega (arith, few) }
 
 pub returns : goal.returns

@@ -4,7 +4,7 @@ use Rattle.sector_lattice.specs.Seeds.{seed_number}
 use Rattle.family.specs.FamilyView.{family_view}
 use Rattle.family.specs.Shapes.{ArePowers}
 use Rattle.family.specs.declared.parts.StrippedField.{StrippedField}
-use Rattle.sector_job.specs.Candidates.{Integral}
+use Rattle.sector_job.specs.Candidates.{Integral, dots_bound, rank_bound}
 use Rattle.sector_job.proofs.Steps.{fits_below, is_over, all_powers, few_rows, within_budget}
 use Rattle.sector_job.proofs.working.outcome_by.Goals as goal
 
@@ -42,7 +42,8 @@ returns-then-are_too_many c =
     (subst (λ (fields : List StrippedField). family.budget.candidates < length fields * seed_number c.sector-sector.result.0 family.n dots rank) c.fields-fields.ensures over)
     in
     is_over family generators.sector.0 c.args.targets.now generators.fields dots rank (fits_below family generators.sector.0 c.args.targets.now c.requires.fits) c.requires.basis
-    c.most_dots-dots.ensures.value c.most_rank-rank.ensures.value here
+    (c.most_dots-dots.ensures.value ∙ ap (λ s. dots_bound family s.0 c.args.targets.now) c.sector-sector.ensures)
+    (c.most_rank-rank.ensures.value ∙ ap (λ s. rank_bound family s.0 c.args.targets.now) c.sector-sector.ensures) here
 
 pub all_candidates-requires-clause-powers : goal.all_candidates-requires-clause-powers
 all_candidates-requires-clause-powers c =

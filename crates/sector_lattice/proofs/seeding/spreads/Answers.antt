@@ -1,4 +1,6 @@
-use Rattle.std.proofs.Common.{◌+◌, ◌*◌, ◌/◌, ◌≤◌, ◌^◌, ap, sym, ◌∙◌, arith}
+use Rattle.std.proofs.Common.{◌+◌, ◌-◌, ◌*◌, ◌/◌, ◌≤◌, ◌^◌, ap, sym, ◌∙◌, arith}
+use Rattle.sector_lattice.specs.declared.integral.TheConstants.{LINES}
+use Rattle.sector_lattice.specs.declared.seeding.TheConstants.{SEED_LIMIT}
 use Rattle.sector_lattice.proofs.Counting.{binomial_none, ways_bound, ways_product, next_ways}
 use Rattle.sector_lattice.proofs.seeding.spreads.Goals as goal
 
@@ -7,8 +9,9 @@ loop-spent-init c = sym (binomial_none (c.args.places + 0))
 
 pub overflow_mul-ways : goal.overflow_mul-ways
 overflow_mul-ways c =
-    let ways : c.loop-spent.ways ≤ 2 ^ 29 = ways_bound c.args.places c.loop-spent.spent c.loop-spent.ways (omega arith) c.loop-spent.invariant in
-    let product : c.loop-spent.ways * (c.from.result + c.loop-spent.spent + 1) ≤ 2 ^ 29 * 30 = ways_product c.loop-spent.ways (c.from.result + c.loop-spent.spent + 1) ways (omega arith) in
+    let ways : c.loop-spent.ways ≤ 2 ^ (LINES + SEED_LIMIT - 1) = ways_bound c.args.places c.loop-spent.spent c.loop-spent.ways (omega arith) c.loop-spent.invariant in
+    let product : c.loop-spent.ways * (c.from.result + c.loop-spent.spent + 1) ≤ 2 ^ (LINES + SEED_LIMIT - 1) * (LINES + SEED_LIMIT) =
+    ways_product c.loop-spent.ways (c.from.result + c.loop-spent.spent + 1) ways (omega arith) in
     omega arith
 
 pub loop-spent-preserved : goal.loop-spent-preserved

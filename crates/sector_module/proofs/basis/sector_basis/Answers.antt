@@ -1,7 +1,7 @@
 use Rattle.std.proofs.Common.{◌≡◌, length, List, sym, ap, subst, ◌∙◌, arith}
 use Rattle.std.specs.List.{AllZip}
 use Rattle.std.proofs.lemmas.List.Elements.{All-same}
-use Rattle.mono_order.specs.declared.limits.TheConstants.{RUN_DEGREE}
+use Rattle.mono_order.specs.declared.limits.TheConstants.{RUN_DEGREE, VARIABLES}
 use Rattle.mono_order.specs.TermOrder.{over_position, zero_dominates}
 use Rattle.module_vec.specs.ModuleVector.{ModuleVector, IsMember}
 use Rattle.module_basis.specs.GroebnerBasis.{IsGroebnerBasis, IsReducedBasis}
@@ -34,11 +34,11 @@ plain_run-requires-clause-few c =
 generators_are : (c : goal.After-drop-generators-2) → c.deref.result.now ≡ sector_generators c.args.family.now.baikov c.args.family.now.n c.args.sector.0
 generators_are c = c.deref.ensures.value ∙ c.in_ok-generators.ensures.generators
 
-reduced : (c : goal.After-drop-generators-2) → IsReducedBasis over_position 9 (IsSyzygy 9 (sector_factors c.args.family.now.baikov c.args.family.now.n c.args.sector.0)) c.in_ok-reduced.reduced
+reduced : (c : goal.After-drop-generators-2) → IsReducedBasis over_position VARIABLES (IsSyzygy VARIABLES (sector_factors c.args.family.now.baikov c.args.family.now.n c.args.sector.0)) c.in_ok-reduced.reduced
 reduced c =
     let family = c.args.family.now in
-    let groebner : IsGroebnerBasis zero_dominates (IsMember 9 (sector_generators family.baikov family.n c.args.sector.0)) c.in_ok-run.run'.elements =
-    subst (λ (gs : List ModuleVector). IsGroebnerBasis zero_dominates (IsMember 9 gs) c.in_ok-run.run'.elements) (generators_are c) c.in_ok-run.ensures.basis
+    let groebner : IsGroebnerBasis zero_dominates (IsMember VARIABLES (sector_generators family.baikov family.n c.args.sector.0)) c.in_ok-run.run'.elements =
+    subst (λ (gs : List ModuleVector). IsGroebnerBasis zero_dominates (IsMember VARIABLES gs) c.in_ok-run.run'.elements) (generators_are c) c.in_ok-run.ensures.basis
     in
     run_reduced family.baikov family.n c.args.sector.0 family.limits.few_variables family.limits.polynomial.variables c.in_ok-run.run'.elements c.in_ok-reduced.reduced groebner
     c.in_ok-reduced.ensures.reduced

@@ -10,16 +10,18 @@ use Rattle.sparse_poly.specs.Equality.{one_polynomial-Decides}
 use Rattle.family.specs.Shapes.{IsPolynomial}
 use Rattle.family.specs.Conditions.{in_sector}
 use Rattle.ibp_algebra.proofs.Degrees.{degree_within}
+use Rattle.sparse_poly.specs.declared.limits.TheConstants.{DEGREE_LIMIT}
+use Rattle.mono_order.specs.declared.limits.TheConstants.{RUN_DEGREE}
 use Rattle.sector_module.proofs.MemberSums.{combination_step, Decides-member}
 use Rattle.sector_module.proofs.membership.is_member.Goals as goal
 
 pub product-requires : goal.product-requires
 product-requires c =
     let family = c.args.family.now in
-    let polynomials = subst (λ (l : List Polynomial). All (IsPolynomial family.n 250) l) (sym c.as_slice-c.ensures) c.requires.shape.polynomials in
-    let own : IsPolynomial family.n 250 c.index-c-i.result = subst (IsPolynomial family.n 250) (sym c.index-c-i.is) (polynomials c.loop-i.i c.index-c-i.result c.loop-i-test.true) in
-    let first = degree_within 250 c.index-c-i.result own.degree_within in
-    let second = degree_within 25 c.in_ok-factor.factor c.in_ok-factor.ensures.degrees in
+    let polynomials = subst (λ (l : List Polynomial). All (IsPolynomial family.n RUN_DEGREE) l) (sym c.as_slice-c.ensures) c.requires.shape.polynomials in
+    let own : IsPolynomial family.n RUN_DEGREE c.index-c-i.result = subst (IsPolynomial family.n RUN_DEGREE) (sym c.index-c-i.is) (polynomials c.loop-i.i c.index-c-i.result c.loop-i-test.true) in
+    let first = degree_within RUN_DEGREE c.index-c-i.result own.degree_within in
+    let second = degree_within (DEGREE_LIMIT + 1) c.in_ok-factor.factor c.in_ok-factor.ensures.degrees in
     omega (arith, first, second)
 
 pub product-requires-2 : goal.product-requires-2
@@ -27,8 +29,8 @@ product-requires-2 c =
     let family = c.args.family.now in
     omega (
       arith,
-      degree_within 250 c.args.field.now.b c.requires.shape.factor.degree_within,
-      degree_within 24 family.baikov family.limits.polynomial.degree_within,
+      degree_within RUN_DEGREE c.args.field.now.b c.requires.shape.factor.degree_within,
+      degree_within DEGREE_LIMIT family.baikov family.limits.polynomial.degree_within,
     )
 
 pub loop-i-preserved : goal.loop-i-preserved

@@ -1,5 +1,5 @@
 use Rattle.std.proofs.Common.{◌≡◌, Err, true, false, sym, ap, subst, ◌∙◌}
-use Rattle.mono_order.specs.declared.limits.TheConstants.{RUN_DEGREE}
+use Rattle.mono_order.specs.declared.limits.TheConstants.{RUN_DEGREE, VARIABLES}
 use Rattle.module_vec.specs.ModuleVector.{ModuleVector}
 use Rattle.module_vec.specs.Division.{is_over_degree}
 use Rattle.module_vec.proofs.Degrees.{within-AllKeys}
@@ -9,7 +9,7 @@ use Rattle.sector_module.proofs.vectors.generator.Goals as goal
 
 pub returns-in-Ok-clause-vector : goal.returns-in-Ok-clause-vector
 returns-in-Ok-clause-vector c =
-    let terms : c.deref.result.now ≡ factor_generator 9 c.args.i c.args.f.now =
+    let terms : c.deref.result.now ≡ factor_generator VARIABLES c.args.i c.args.f.now =
     generator_terms c.args.i c.loop-monomial.monomial-index c.args.f.now _ c.loop-monomial.terms.items c.deref.result.now _ _ c.loop-monomial-test.false c.terms-monomial-items.ensures.same
     c.one.ensures c.one-2.ensures (c.deref.ensures.value ∙ c.in_ok-push-2.ensures.items) c.loop-monomial.invariant
     in
@@ -17,7 +17,7 @@ returns-in-Ok-clause-vector c =
 
 pub returns-in-Ok-clause-not_zero : goal.returns-in-Ok-clause-not_zero
 returns-in-Ok-clause-not_zero c =
-    let terms : c.deref.result.now ≡ factor_generator 9 c.args.i c.args.f.now =
+    let terms : c.deref.result.now ≡ factor_generator VARIABLES c.args.i c.args.f.now =
     generator_terms c.args.i c.loop-monomial.monomial-index c.args.f.now _ c.loop-monomial.terms.items c.deref.result.now _ _ c.loop-monomial-test.false c.terms-monomial-items.ensures.same
     c.one.ensures c.one-2.ensures (c.deref.ensures.value ∙ c.in_ok-push-2.ensures.items) c.loop-monomial.invariant
     in
@@ -26,13 +26,13 @@ returns-in-Ok-clause-not_zero c =
 
 pub unreachable-requires : goal.unreachable-requires
 unreachable-requires c =
-    let terms : c.deref.result.now ≡ factor_generator 9 c.args.i c.args.f.now =
+    let terms : c.deref.result.now ≡ factor_generator VARIABLES c.args.i c.args.f.now =
     generator_terms c.args.i c.loop-monomial.monomial-index c.args.f.now _ c.loop-monomial.terms.items c.deref.result.now _ _ c.loop-monomial-test.false c.terms-monomial-items.ensures.same
     c.one.ensures c.one-2.ensures (c.deref.ensures.value ∙ c.in_ok-push-2.ensures.items) c.loop-monomial.invariant
     in
     let within : is_over_degree RUN_DEGREE c.deref.result.now ≡ false =
     subst (λ (v : ModuleVector). is_over_degree RUN_DEGREE v ≡ false) (sym terms)
-    (within-AllKeys RUN_DEGREE (factor_generator 9 c.args.i c.args.f.now) (generator_within RUN_DEGREE c.args.i c.args.f.now c.requires.degrees))
+    (within-AllKeys RUN_DEGREE (factor_generator VARIABLES c.args.i c.args.f.now) (generator_within RUN_DEGREE c.args.i c.args.f.now c.requires.degrees))
     in
     let over : is_over_degree RUN_DEGREE c.deref.result.now ≡ true = c.from_terms.ensures.over (c.in-Err-DegreeOver.is ∙ ap (λ f. Err f) c.in-Err-DegreeOver.field-0-is) in
     let clash : true ≡ false = sym over ∙ within in

@@ -1,6 +1,8 @@
 use Rattle.std.proofs.Common.{◌≡◌, ◌≢◌, ◌+◌, ◌-◌, ◌++◌, ◌∷◌, [], take, ap, subst, ◌∙◌, arith}
 use Rattle.ibp_field.specs.Arithmetic.{neg_mod}
 use Rattle.std.proofs.lemmas.List.Elements.{All-push, All-same}
+use Rattle.sparse_poly.specs.declared.limits.TheConstants.{DEGREE_LIMIT}
+use Rattle.mono_order.specs.declared.limits.TheConstants.{RUN_DEGREE}
 use Rattle.module_vec.specs.ModuleVector.{ModuleVector}
 use Rattle.sector_module.specs.Factors.{sector_generators}
 use Rattle.sector_module.proofs.FactorLaws.{degrees_more}
@@ -8,7 +10,7 @@ use Rattle.sector_module.proofs.Generating.{generators_more, generators_last, sc
 use Rattle.sector_module.proofs.vectors.generators.Goals as goal
 
 pub generator-requires-clause-degrees : goal.generator-requires-clause-degrees
-generator-requires-clause-degrees c = degrees_more 25 250 c.in_ok-factor.factor (omega arith) c.in_ok-factor.ensures.degrees
+generator-requires-clause-degrees c = degrees_more (DEGREE_LIMIT + 1) RUN_DEGREE c.in_ok-factor.factor (omega arith) c.in_ok-factor.ensures.degrees
 
 pub loop-place-preserved : goal.loop-place-preserved
 loop-place-preserved c =
@@ -24,8 +26,8 @@ loop-place-preserved c =
 pub generator-requires-2-clause-degrees : goal.generator-requires-2-clause-degrees
 generator-requires-2-clause-degrees c =
     let family = c.args.family.now in
-    degrees_more 24 250 c.in_ok-last.last (omega arith)
-    (scale_degrees 24 c.neg.result c.in_ok-last.last family.baikov c.in_ok-last.ensures.canonical c.in_ok-last.ensures.multiple family.limits.polynomial.degree_within)
+    degrees_more DEGREE_LIMIT RUN_DEGREE c.in_ok-last.last (omega arith)
+    (scale_degrees DEGREE_LIMIT c.neg.result c.in_ok-last.last family.baikov c.in_ok-last.ensures.canonical c.in_ok-last.ensures.multiple family.limits.polynomial.degree_within)
 
 pub returns-clause-generators : goal.returns-clause-generators
 returns-clause-generators c =

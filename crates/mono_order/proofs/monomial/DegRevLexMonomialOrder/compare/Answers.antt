@@ -1,17 +1,19 @@
-use Rattle.std.proofs.Common.{◌≡◌, ◌∙◌, refl, ap, sym, reverse, sum}
+use Rattle.std.proofs.Common.{◌≡◌, ◌∙◌}
 use Rattle.std.specs.Ordering.{nat_cmp, ordering_then}
-use Rattle.std.specs.Cmp.Lexicographic.{slice_cmp}
-use Rattle.std.specs.declared.cmp.Ordering.TheVariants.{Equal}
-use Rattle.std.proofs.lemmas.Iterator.Adapters.{YieldsList-from_rev_slice}
-use Rattle.std.proofs.lemmas.Iterator.Search.{cmp_from_yields_List}
+use Rattle.ibp_algebra.specs.Exponents.{deg_rev_lex}
+use Rattle.mono_order.specs.PartialSums.{exponents_of}
+use Rattle.mono_order.proofs.WordOrder.{words_compare}
 use Rattle.mono_order.proofs.monomial.DegRevLexMonomialOrder.compare.Goals as goal
 
-pub returns-in-Equal : goal.returns-in-Equal
-returns-in-Equal c =
-    let ran =
-    cmp_from_yields_List (λ x y. y ≡ x) _ nat_cmp _ c.cmp-in-Equal.ensures.ran (YieldsList-from_rev_slice c.right.inside.exponents cc)
-    (λ it e. YieldsList-from_rev_slice c.left.inside.exponents cc) (λ x y. refl)
+pub returns : goal.returns
+returns c =
+    let a = exponents_of c.left.inside.low c.left.inside.middle c.left.inside.high in
+    let b = exponents_of c.right.inside.low c.right.inside.middle c.right.inside.high in
+    let words :
+    deg_rev_lex a b
+    ≡ ordering_then (ordering_then (nat_cmp c.left.inside.high c.right.inside.high) (nat_cmp c.left.inside.middle c.right.inside.middle)) (nat_cmp c.left.inside.low c.right.inside.low) =
+    words_compare a b c.left.invariant.is_monomial c.right.invariant.is_monomial
+    ∙ (λ i. ordering_then (ordering_then (nat_cmp (c.left.invariant.high_is i) (c.right.invariant.high_is i)) (nat_cmp (c.left.invariant.middle_is i) (c.right.invariant.middle_is i))) (nat_cmp (c.left.invariant.low_is i) (c.right.invariant.low_is i)))
     in
-    let degrees : nat_cmp (sum c.args.left.now) (sum c.args.right.now) ≡ Equal = cc (c.in-Equal.ensures, c.degree.ensures.sum, c.degree-2.ensures.sum) in
-    let tail = slice_cmp nat_cmp (reverse c.args.right.now) (reverse c.args.left.now) in
-    ran ∙ (λ i. slice_cmp nat_cmp (reverse (c.right.view_is i)) (reverse (c.left.view_is i))) ∙ sym (ap (λ r. ordering_then r tail) degrees)
+    let seen : deg_rev_lex a b ≡ deg_rev_lex c.args.left.now c.args.right.now = λ i. deg_rev_lex (c.left.view_is i) (c.right.view_is i) in
+    cc (words, seen, c.then-2.ensures, c.then.ensures, c.cmp.ensures, c.cmp-2.ensures, c.cmp-3.ensures)

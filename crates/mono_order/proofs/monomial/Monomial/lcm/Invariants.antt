@@ -4,4 +4,4 @@ use Rattle.mono_order.proofs.Places.{Combined}
 use Rattle.mono_order.proofs.monomial.Monomial.lcm.Given as goal
 
 abbrev pub invariant-loop-i : goal.invariant-loop-i
-invariant-loop-i l = Combined max VARIABLES l.initial.exponents l.other-inside.exponents l.exponents l.i
+invariant-loop-i l = Combined max VARIABLES l.initial.exponents l.others l.exponents l.i
