@@ -1,9 +1,10 @@
 -- What is told of the bytes that were read holds of the source's bytes.
-use Rattle.std.proofs.Common.{◌≡◌, ℕ, List, Option, Some, None, Result, Ok, Err, refl, sym, ap, subst, ◌∙◌}
+use Rattle.std.proofs.Common.{◌≡◌, ℕ, ◌+◌, List, Option, Some, None, Result, Ok, Err, refl, sym, ap, subst, ◌∙◌}
 use Rattle.std.specs.Prelude.{IfSome, IsOkAnd, Vec}
 use Rattle.std.specs.declared.alloc.Global.{Global}
 use Rattle.std.specs.Io.KnownBytes.{Keeps}
 use Rattle.std.proofs.lemmas.Option.{same_Some}
+use Rattle.family_file.specs.declared.limits.TheConstants.{MAX_FILE}
 use Rattle.family_file.proofs.Front.{family_of-take}
 use Rattle.family_file.specs.declared.fault.FileFault.{FileFault}
 use Rattle.family.specs.Within.{DataWithin}
@@ -19,7 +20,7 @@ use Rattle.commands.specs.Input.{TakesFront}
 use Rattle.commands.specs.declared.status.Status.TheVariants as status
 use Rattle.commands.proofs.Commands.{not_refused}
 
-pub told_of : (P : Command → Result FamilyData FileFault → Type 0) (found : Option Command) (asked : Command) (left now : Option (List ℕ)) (bytes : List ℕ) → found ≡ Some asked → TakesFront 1048577 left now bytes → P asked (family_of (need_of asked) bytes)
+pub told_of : (P : Command → Result FamilyData FileFault → Type 0) (found : Option Command) (asked : Command) (left now : Option (List ℕ)) (bytes : List ℕ) → found ≡ Some asked → TakesFront (MAX_FILE + 1) left now bytes → P asked (family_of (need_of asked) bytes)
     → (command : Command) → found ≡ Some command → IfSome left (λ input. P command (family_of (need_of command) input))
 told_of P found asked None now bytes is taken told command also = tt
 told_of P found asked (Some input) now bytes is taken told command also =

@@ -14,6 +14,10 @@ mod run;
 mod status;
 mod words;
 
+pub use input::{InputFault, read_input};
 pub use laws::{lists_are_commands, one_text};
+pub use output::write_text;
+pub use refusal::Refusal;
 pub use run::run_calm;
 pub use status::{Status, status_text};
+pub use words::{Command, WordsFault, matches_of, number_in};

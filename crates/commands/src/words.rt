@@ -49,8 +49,8 @@ fn program<'a>(alloc: Global) -> Result<clap::Command<'a>, AllocError>
         .arg(workers)
 }
 
-// The matches of the words.
-fn matches_of<'a>(alloc: Global, words: &'a [String]) -> Result<ArgMatches<'a>, WordsFault>
+/// What the words give to each argument: `command`, `number` and `workers`.
+pub fn matches_of<'a>(alloc: Global, words: &'a [String]) -> Result<ArgMatches<'a>, WordsFault>
     ensures rows { IfOk result (λ m. rows_found (map string_bytes words.entry.now)
         ≡ Some (rows_of (found_of m))) }
     ensures usage { IsErrOf result WordsFault.Usage
@@ -88,9 +88,9 @@ fn is_number(word: &[u8]) -> bool
     1 <= word.len() && word.len() <= MOST_DIGITS && are_digits(word)
 }
 
-// The value of a number.
+/// The value of a number, which is one to four digits.
 #[tactic(auto, unfolding(crate::specs::Words::number_in))]
-fn number_in(word: &str) -> Option<u16>
+pub fn number_in(word: &str) -> Option<u16>
     ensures { result ≡ number_in word.now }
 {
     if is_number(word.as_bytes()) {

@@ -1,3 +1,4 @@
 pub mod CapsWithin
+pub mod EntryOfSector
 pub mod Places
 pub mod SameFamily

@@ -1,6 +1,6 @@
 -- The division that takes the lead off what is left: the settled terms are above all that is left, and how the rest
 -- divides tells how the whole divides.
-use Rattle.std.proofs.Common.{◌≡◌, ℕ, suc, ◌+◌, ◌*◌, ◌%◌, ◌<◌, ◌≤◌, Bool, true, false, ◌||◌, if◌then◌else◌, Option, Some, None, sum, length, get_or, drop, map, List, [], ◌∷◌, ◌++◌, sym, refl, ap, subst, ◌∙◌, arith}
+use Rattle.std.proofs.Common.{◌≡◌, ℕ, ◌+◌, ◌*◌, ◌%◌, ◌<◌, ◌≤◌, Bool, true, false, ◌||◌, Some, None, sum, length, drop, List, [], ◌∷◌, ◌++◌, sym, refl, ap, subst, ◌∙◌, arith}
 use Rattle.std.specs.Prelude.{nat_lt, Result, Ok, Err, IfOk, OnOk}
 use Rattle.std.specs.declared.cmp.Ordering.{Ordering}
 use Rattle.std.proofs.lemmas.Bool.{le-ltb}
@@ -25,7 +25,6 @@ use Rattle.module_vec.proofs.Degrees.{AllKeys-within}
 use Rattle.module_vec.proofs.DivisionLaws.{DividesTo-unique, AllBelow-subtract, AllKeys-subtract}
 use Rattle.module_vec.proofs.DivisionSteps.{prefixed, prefixed-more, DividesTo-zero, DividesTo-moved, DividesTo-over, DividesTo-subtracted}
 use Rattle.module_vec.proofs.Measure.{lead_measure, lead_measure-falls}
-use Rattle.fast_division.specs.LeadIndex.{first_number}
 use Rattle.fast_division.specs.PartialSums.{IsBounded}
 use Rattle.fast_division.proofs.Totals.{normal_same}
 
@@ -35,51 +34,6 @@ pub not_over : {E : Type 0} (order : Term → Term → Ordering) (list : List Mo
 not_over order list v w (Ok r) is h = λ over.
     let clash = DividesTo-unique order RUN_DEGREE list v (Remainder r) OverDegree (subst (λ (u : ModuleVector). DividesTo order RUN_DEGREE list u (Remainder r)) is h) over in cc
 not_over order list v w (Err e) is h = tt
-
--- ---- what the index finds
-
-pub record FoundAt (list : List ModuleVector) (t : Term) (n k : ℕ) : Type 0 where
-  pub place : ℕ
-  pub is : k ≡ n + place
-  pub within : place < length list
-  pub found : (d : ModuleVector) → first_divisor list t ≡ Some (get_or list place d)
-
-abbrev Found : List ModuleVector → Term → ℕ → Option ℕ → Type 0
-Found list t n None = first_divisor list t ≡ None
-Found list t n (Some k) = FoundAt list t n k
-
-found_later : (g : ModuleVector) (list : List ModuleVector) (t : Term) (n : ℕ) (o : Option ℕ) → divides (lead g) t ≡ false → Found list t (n + 1) o → Found (g ∷ list) t n o
-found_later g list t n None other h = ap (λ b. if b then Some g else first_divisor list t) other ∙ h
-found_later g list t n (Some k) other h =
-    record {
-      place = suc h.place;
-      is = omega (arith, h.is);
-      within = omega (arith, h.within);
-      found = λ d. ap (λ b. if b then Some g else first_divisor list t) other ∙ h.found d;
-    }
-
-found_if : (b : Bool) (g : ModuleVector) (list : List ModuleVector) (t : Term) (n : ℕ) (o : Option ℕ) → divides (lead g) t ≡ b → Found list t (n + 1) o → Found (g ∷ list) t n (if b then Some n else o)
-found_if true g list t n o here h =
-    record { place = 0; is = omega arith; within = omega arith; found = λ d. ap (λ b. if b then Some g else first_divisor list t) here }
-found_if false g list t n o other h = found_later g list t n o other h
-
-found_all : (list : List ModuleVector) (t : Term) (n : ℕ) → Found list t n (first_number n (map lead list) t)
-found_all [] t n = refl
-found_all (g ∷ list) t n = found_if (divides (lead g) t) g list t n (first_number (n + 1) (map lead list) t) refl (found_all list t (n + 1))
-
-pub index_none : (list : List ModuleVector) (leads : List Term) (t : Term) → leads ≡ map lead list → None ≡ first_number 0 leads t → first_divisor list t ≡ None
-index_none list leads t is none = subst (Found list t 0) (sym (none ∙ ap (λ (l : List Term). first_number 0 l t) is)) (found_all list t 0)
-
-pub index_some : (list : List ModuleVector) (leads : List Term) (t : Term) (k : ℕ) → leads ≡ map lead list → Some k ≡ first_number 0 leads t → FoundAt list t 0 k
-index_some list leads t k is some = subst (Found list t 0) (sym (some ∙ ap (λ (l : List Term). first_number 0 l t) is)) (found_all list t 0)
-
-pub index_within : (list : List ModuleVector) (t : Term) (k : ℕ) → FoundAt list t 0 k → k < length list
-index_within list t k h = omega (arith, h.is, h.within)
-
-pub index_found : (list : List ModuleVector) (t : Term) (k : ℕ) (g : ModuleVector) → FoundAt list t 0 k → g ≡ get_or list k g → first_divisor list t ≡ Some g
-index_found list t k g h is =
-    let at : h.place ≡ k = omega (arith, h.is) in
-    h.found g ∙ ap (λ (x : ModuleVector). Some x) (ap (λ i. get_or list i g) at ∙ sym is)
 
 -- ---- the multiple without its lead
 

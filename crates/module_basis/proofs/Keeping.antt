@@ -1,18 +1,18 @@
 -- From a basis to the reduced one, step by step: the vectors with low leads are put in descending order, and those
 -- stay whose leads no lead of a later one divides.
-use Rattle.std.proofs.Common.{◌≡◌, ℕ, suc, ◌+◌, ◌<◌, ◌≤◌, Bool, true, false, if◌then◌else◌, Option, Some, None, inl, inr, ⊎_elim, sum, length, get_or, take, drop, List, [], ◌∷◌, ◌++◌, sym, refl, ap, subst, ◌∙◌, append_assoc, arith}
+use Rattle.std.proofs.Common.{◌≡◌, ℕ, suc, ◌+◌, ◌<◌, ◌≤◌, Bool, true, false, if◌then◌else◌, Some, None, inl, inr, ⊎_elim, sum, length, get_or, take, drop, List, [], ◌∷◌, ◌++◌, sym, refl, ap, subst, ◌∙◌, append_assoc, arith}
 use Rattle.std.specs.List.{All, AllByRecursion, Contains, prefix_len}
 use Rattle.std.specs.Ordering.{is_lt}
 use Rattle.std.specs.declared.cmp.Ordering.{Ordering}
 use Rattle.std.specs.declared.cmp.Ordering.TheVariants.{Less, Equal, Greater}
 use Rattle.std.proofs.lemmas.Bool.{cases_lt}
-use Rattle.std.proofs.lemmas.List.{get_or_default}
+use Rattle.std.proofs.lemmas.List.{get_or_default, length-append}
 use Rattle.std.proofs.lemmas.List.Elements.{All-contains, All-contains_itself, All-weaker, All-from_recursion, Contains-append_right}
 use Rattle.ibp_algebra.specs.FormalSum.{AllKeys, IsCanonical}
 use Rattle.ibp_algebra.proofs.Combinations.{AllKeys-both}
 use Rattle.mono_order.specs.Term.{Term}
 use Rattle.mono_order.specs.TermOrder.{IsTermOrder}
-use Rattle.module_vec.specs.ModuleVector.{ModuleVector, lead, IsMonic, IsMonicVector}
+use Rattle.module_vec.specs.ModuleVector.{ModuleVector, lead, IsMonicVector}
 use Rattle.module_vec.specs.Division.{Remainder, DividesTo, first_divisor}
 use Rattle.module_basis.specs.GroebnerBasis.{IsTailReduced}
 use Rattle.module_basis.specs.Reducing.{Descends, IsSortedLow, IsKept}
@@ -151,12 +151,8 @@ module _ {variables : ℕ} {order : Term → Term → Ordering} {high : ℕ → 
       All-contains (IsMonicVector order variables) whole g monic
       (subst (λ (l : List ModuleVector). Contains l g) (sym parts) (Contains-append_right rest (g ∷ k.done) g (0, omega arith, refl)))
 
-  pub IsKeeping-kept_monic : (whole sorted kept : List ModuleVector) → All (IsMonicVector order variables) whole → IsKeeping whole sorted kept → All IsMonic kept
-  IsKeeping-kept_monic whole sorted kept monic k =
-      All-weaker (Contains kept) IsMonic
-      (λ x c. (All-contains (IsMonicVector order variables) whole x monic
-      (subst (λ (l : List ModuleVector). Contains l x) (sym k.parts) (Contains-append_right sorted k.done x (k.stays.within x c)))).monic)
-      kept (All-contains_itself kept)
+  pub IsKeeping-short : (whole sorted kept : List ModuleVector) → IsKeeping whole sorted kept → length kept ≤ length whole
+  IsKeeping-short whole sorted kept k = omega (arith, k.stays.short, ap length k.parts, length-append sorted k.done)
 
   -- ---- tails
 
@@ -184,10 +180,3 @@ module _ {variables : ℕ} {order : Term → Term → Ordering} {high : ℕ → 
   pub sorted_vectors : (elements sorted : List ModuleVector) → All (IsMonicVector order variables) elements → IsSortedLow order high elements sorted → All (IsMonicVector order variables) sorted
   sorted_vectors elements sorted monic s =
       All-weaker (Contains sorted) (IsMonicVector order variables) (λ x c. All-contains (IsMonicVector order variables) elements x monic (from_low_elements high elements x (s.within x c)).0) sorted (All-contains_itself sorted)
-
-some_divisor : (o : Option ModuleVector) → (o ≡ None → ⊥) → (h : ModuleVector) × (o ≡ Some h)
-some_divisor None apart = absurd (apart refl)
-some_divisor (Some h) apart = (h, refl)
-
-pub divisor_found : (list : List ModuleVector) (t : Term) → (first_divisor list t ≡ None → ⊥) → (h : ModuleVector) × (first_divisor list t ≡ Some h)
-divisor_found list t apart = some_divisor (first_divisor list t) apart

@@ -1,12 +1,12 @@
 -- From a basis to the reduced one, as functions on lists: the vectors with low leads are put in descending order, one whose
 -- lead is divisible by the lead of another that stays is dropped, and the tails are divided.
-use Rattle.std.proofs.Common.{◌≡◌, ◌≢◌, ℕ, zero, suc, ◌+◌, ◌≤◌, Bool, true, false, if◌then◌else◌, Option, Some, None, ◌⊎◌, inl, inr, sum, length, List, [], ◌∷◌, ◌++◌, refl, arith}
+use Rattle.std.proofs.Common.{◌≡◌, ℕ, suc, ◌+◌, ◌≤◌, Bool, true, false, if◌then◌else◌, Option, Some, None, ◌⊎◌, inl, inr, sum, length, List, [], ◌∷◌, ◌++◌, refl, arith}
 use Rattle.std.specs.List.{All, AllByRecursion, AllZip, Contains}
 use Rattle.std.specs.declared.cmp.Ordering.{Ordering}
 use Rattle.std.proofs.lemmas.List.Elements.{All-contains, All-weaker, All-contains_itself, recursion_from_All, All-from_recursion}
 use Rattle.ibp_algebra.specs.FormalSum.{AllKeys}
 use Rattle.ibp_algebra.proofs.Combinations.{AllKeys-weaker}
-use Rattle.ibp_base.proofs.Members.{in_cases, in_head, in_tail, in_none}
+use Rattle.ibp_base.proofs.Members.{in_cases, in_tail}
 use Rattle.mono_order.specs.Term.{Term}
 use Rattle.mono_order.specs.TermOrder.{IsTermOrder}
 use Rattle.module_vec.specs.ModuleVector.{ModuleVector, lead, IsMonicVector}

@@ -1,17 +1,16 @@
-ghost use Rattle.std.specs.Prelude.{◌≡◌, ◌≤◌, ◌↔◌, false, sum, length, None, IsFalse, IfOk};
+ghost use Rattle.std.specs.Prelude.{◌≡◌, ◌<◌, ◌≤◌, ◌^◌, false, map, sum, length, IfOk};
 ghost use Rattle.std.specs.List.{All, AllZip, prefix_len};
 ghost use Rattle.std.specs.Ordering.{is_lt};
 ghost use Rattle.mono_order.specs.declared.limits.TheConstants.{VARIABLES, RUN_DEGREE};
-ghost use Rattle.ibp_algebra.specs.FormalSum.{AllKeys, IsCanonical};
+ghost use Rattle.ibp_algebra.specs.FormalSum.{AllKeys};
 ghost use Rattle.module_vec.specs.ModuleVector.{IsMonic, IsMonicVector, IsVector, lead};
-ghost use Rattle.module_vec.specs.Division.{DividesTo, Remainder, first_divisor, is_over_degree};
+ghost use Rattle.module_vec.specs.Division.{DividesTo, Remainder};
 ghost use Rattle.module_basis.specs.GroebnerBasis.{IsReducedLowBasis, IsTailReduced};
 ghost use Rattle.module_basis.specs.Reducing.{Descends, IsSortedLow, IsKept};
 
 use crate::basis::Basis;
+use fast_division::{LeadIndex, normal_form_fast};
 use ibp_base::{List, NoMemory};
-use ibp_field::Residue;
-use module_division::{find_divisor, normal_form};
 use module_vec::{Vector, VectorFault};
 use mono_order::{Term, TermOrder};
 use std::alloc::Global;
@@ -29,8 +28,8 @@ pub fn reduced_low<O: TermOrder>(
     ensures short { IfOk result (λ list. length list ≤ length basis.now.elements) }
 {
     let sorted = sorted_low(alloc, basis.elements())?;
-    let kept = undivided(alloc, sorted)?;
-    Ok(List::from_vec(with_reduced_tails(alloc, &kept)?))
+    let (kept, index) = undivided(alloc, sorted)?;
+    Ok(List::from_vec(with_reduced_tails(alloc, &kept, &index)?))
 }
 
 // The elements with low leads, in descending order.
@@ -66,44 +65,44 @@ fn place_of<O: TermOrder>(list: &[Vector<O>], term: &Term) -> usize
     list.len()
 }
 
-// What is left of a descending list, from its end on: a vector whose lead is divisible by one that stays is dropped.
+// What is left of a descending list, from its end on, with the index of its leads: a vector whose lead is divisible by
+// one that stays is dropped.
 fn undivided<O: TermOrder>(
     alloc: Global,
     mut sorted: Vec<Vector<O>>,
-) -> Result<Vec<Vector<O>>, NoMemory>
+) -> Result<(Vec<Vector<O>>, LeadIndex<O>), NoMemory>
     requires descends { Descends O.order sorted.items }
     requires monic { All (IsMonicVector O.order VARIABLES) sorted.items }
-    ensures { IfOk result (λ kept. IsKept O.order sorted.items kept.items) }
+    requires few { length sorted.items < 2 ^ 32 }
+    ensures kept { IfOk result (λ r. IsKept O.order sorted.items r.0.items) }
+    ensures index { IfOk result (λ r. r.1 ≡ map lead r.0.items) }
 {
     let mut kept = Vec::new(alloc);
+    let mut index = LeadIndex::empty(alloc);
     'vectors: while let Some(vector) = sorted.pop() {
-        if !is_divided(&kept, &vector.lead_term()) {
+        let lead = vector.lead_term();
+        if index.first_divisor(&lead).is_none() {
+            index.add(&lead)?;
             kept.push(vector)?;
         }
     }
-    Ok(kept)
-}
-
-// Whether the lead of a vector of the list divides the term.
-fn is_divided<O: TermOrder>(list: &[Vector<O>], term: &Term) -> bool
-    requires { All IsMonic list.now }
-    ensures { IsFalse result ↔ (first_divisor list.now term.now ≡ None) }
-{
-    find_divisor(list, term).is_some()
+    Ok((kept, index))
 }
 
 // The vectors of the list, each with the terms below its lead reduced by the list.
 fn with_reduced_tails<O: TermOrder>(
     alloc: Global,
     list: &[Vector<O>],
+    index: &LeadIndex<O>,
 ) -> Result<Vec<Vector<O>>, NoMemory>
     requires monic { All (IsMonicVector O.order VARIABLES) list.now }
     requires low { All (λ g. O.high (lead g).0 ≡ false) list.now }
+    requires index { index.now ≡ map lead list.now }
     ensures { IfOk result (λ reduced. AllZip (IsTailReduced O.order VARIABLES list.now) list.now reduced.items) }
 {
     let mut reduced = Vec::new(alloc);
     for vector in list {
-        reduced.push(with_reduced_tail(alloc, vector, list)?)?;
+        reduced.push(with_reduced_tail(alloc, vector, list, index)?)?;
     }
     Ok(reduced)
 }
@@ -113,8 +112,10 @@ fn with_reduced_tail<O: TermOrder>(
     alloc: Global,
     vector: &Vector<O>,
     list: &[Vector<O>],
+    index: &LeadIndex<O>,
 ) -> Result<Vector<O>, NoMemory>
     requires monic { All (IsMonicVector O.order VARIABLES) list.now }
+    requires index { index.now ≡ map lead list.now }
     requires first { IsMonicVector O.order VARIABLES vector.now }
     requires low { O.high (lead vector.now).0 ≡ false }
     ensures { IfOk result (λ r. IsTailReduced O.order VARIABLES list.now vector.now r) }
@@ -122,11 +123,14 @@ fn with_reduced_tail<O: TermOrder>(
     let Some((first, tail)) = vector.terms().split_first() else {
         unreachable!()
     };
-    let rest = low_remainder(alloc, &vector_of(alloc, tail)?, list)?;
+    let mut below = Vec::new(alloc);
+    below.extend_from_slice(tail)?;
+    let below = Vector::from_descending(below);
+    let rest = low_remainder(alloc, &below, list, index)?;
     let mut terms = Vec::new(alloc);
     terms.push(*first)?;
     terms.extend_from_slice(rest.terms())?;
-    vector_of(alloc, &terms)
+    Ok(Vector::from_descending(terms))
 }
 
 // The remainder of a low vector, whose division meets no limit.
@@ -134,27 +138,16 @@ fn low_remainder<O: TermOrder>(
     alloc: Global,
     v: &Vector<O>,
     list: &[Vector<O>],
+    index: &LeadIndex<O>,
 ) -> Result<Vector<O>, NoMemory>
     requires monic { All (IsMonicVector O.order VARIABLES) list.now }
+    requires index { index.now ≡ map lead list.now }
     requires vector { IsVector O.order VARIABLES v.now }
     requires low { AllKeys (λ t. (O.high t.0 ≡ false) × (sum t.1 ≤ RUN_DEGREE)) v.now }
     ensures { IfOk result (λ r. DividesTo O.order RUN_DEGREE list.now v.now (Remainder r)) }
 {
-    match normal_form(alloc, v, list) {
+    match normal_form_fast(alloc, v, list, index) {
         Ok(rest) => Ok(rest),
-        Err(VectorFault::DegreeOver) => unreachable!(),
-        Err(VectorFault::NoMemory) => Err(NoMemory),
-    }
-}
-
-// The vector with these terms.
-fn vector_of<O: TermOrder>(alloc: Global, terms: &[(Term, Residue)]) -> Result<Vector<O>, NoMemory>
-    requires canonical { IsCanonical O.order terms.now }
-    requires within { is_over_degree RUN_DEGREE terms.now ≡ false }
-    ensures { IfOk result (λ v. v ≡ terms.now) }
-{
-    match Vector::from_terms(alloc, terms) {
-        Ok(vector) => Ok(vector),
         Err(VectorFault::DegreeOver) => unreachable!(),
         Err(VectorFault::NoMemory) => Err(NoMemory),
     }

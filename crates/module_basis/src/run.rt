@@ -1,7 +1,7 @@
-ghost use Rattle.std.specs.Prelude.{◌≡◌, ◌≢◌, ◌+◌, ◌-◌, ◌^◌, ◌<◌, ◌↔◌, ◌⊎◌, true, false, length, get_or, [], Some, None, IsTrue, IfOk, OnOk};
+ghost use Rattle.std.specs.Prelude.{◌≡◌, ◌≢◌, ◌+◌, ◌-◌, ◌^◌, ◌<◌, ◌↔◌, ◌⊎◌, true, false, length, map, get_or, [], Some, None, IsTrue, IfOk, OnOk};
 ghost use Rattle.std.specs.List.{All};
 ghost use Rattle.mono_order.specs.declared.limits.TheConstants.{VARIABLES, RUN_DEGREE};
-ghost use Rattle.module_vec.specs.ModuleVector.{IsMonic, IsMonicVector, IsVector, IsMember};
+ghost use Rattle.module_vec.specs.ModuleVector.{IsMonic, IsMonicVector, IsVector, IsMember, lead};
 ghost use Rattle.module_vec.specs.Division.{DividesTo, Remainder, OverDegree, monic_of, s_vector as s_vector_of};
 ghost use Rattle.module_basis.specs.GroebnerBasis.{IsGroebnerBasis};
 ghost use Rattle.module_basis.specs.PlainRun.{IsProper, IsSoundState, RunsTo, Done, PairsSpent, DegreeOver, TakesFirst, Next, Over, is_pair_over, opening, with_element};
@@ -9,8 +9,9 @@ ghost use Rattle.module_basis.specs.PlainRun.{IsProper, IsSoundState, RunsTo, Do
 use crate::basis::Basis;
 use crate::fault::BasisFault;
 use crate::pairs::{formed_pairs, push_all};
+use fast_division::{LeadIndex, normal_form_fast};
 use ibp_base::NoMemory;
-use module_division::{normal_form, s_vector};
+use module_division::s_vector;
 use module_vec::{Vector, VectorFault};
 use mono_order::TermOrder;
 use pair_queue::{Pair, PairQueue};
@@ -43,23 +44,26 @@ pub fn plain_run<O: TermOrder>(
     Ok(run.finished())
 }
 
-// The elements of a run, the pairs that are left, and how many pairs were taken.
+// The elements of a run with the index of their leads, the pairs that are left, and how many pairs were taken.
 #[derive(Drop)]
 struct Run<O: TermOrder> {
     elements: Vec<Vector<O>>,
+    index: LeadIndex<O>,
     pairs: PairQueue<O>,
     taken: u64,
 }
 
 impl<O: TermOrder> Model for Run<O> {
+    ghost use Rattle.std.specs.Prelude.{◌≡◌, map};
     ghost use Rattle.mono_order.specs.declared.limits.TheConstants.{VARIABLES};
+    ghost use Rattle.module_vec.specs.ModuleVector.{lead};
     ghost use Rattle.module_basis.specs.PlainRun.{RunState, run_state, IsSoundState};
 
     ghost Value = { RunState };
 
     ghost view = { λ r. run_state r.elements.items r.pairs r.taken };
 
-    ghost invariant = { λ r. IsSoundState O.order VARIABLES (run_state r.elements.items r.pairs r.taken) };
+    ghost invariant = { λ r. IsSoundState O.order VARIABLES (run_state r.elements.items r.pairs r.taken) × (r.index ≡ map lead r.elements.items) };
 }
 
 impl<O: TermOrder> Run<O> {
@@ -84,6 +88,7 @@ impl<O: TermOrder> Run<O> {
     {
         Run {
             elements: Vec::new(alloc),
+            index: LeadIndex::empty(alloc),
             pairs: PairQueue::empty(alloc),
             taken: 0,
         }
@@ -99,14 +104,18 @@ impl<O: TermOrder> Run<O> {
     {
         let Run {
             mut elements,
+            mut index,
             mut pairs,
             taken,
         } = self;
-        let formed = formed_pairs(alloc, &elements, &element.lead_term())?;
+        let lead = element.lead_term();
+        let formed = formed_pairs(alloc, &elements, &lead)?;
         push_all(&mut pairs, &formed)?;
+        index.add(&lead)?;
         elements.push(element)?;
         Ok(Run {
             elements,
+            index,
             pairs,
             taken,
         })
@@ -123,15 +132,17 @@ impl<O: TermOrder> Run<O> {
     {
         let Run {
             elements,
+            index,
             mut pairs,
             taken,
         } = self;
         let Some(pair) = pairs.pop() else {
             unreachable!()
         };
-        let rest = remainder_of_pair(alloc, &elements, &pair)?;
+        let rest = remainder_of_pair(alloc, &elements, &index, &pair)?;
         let run = Run {
             elements,
+            index,
             pairs,
             taken: taken + 1,
         };
@@ -163,6 +174,7 @@ impl<O: TermOrder> Run<O> {
     {
         let Run {
             elements,
+            index: _,
             pairs: _,
             taken,
         } = self;
@@ -186,9 +198,11 @@ fn made_monic<O: TermOrder>(alloc: Global, v: &Vector<O>) -> Result<Vector<O>, N
 fn remainder_of_pair<O: TermOrder>(
     alloc: Global,
     elements: &[Vector<O>],
+    index: &LeadIndex<O>,
     pair: &Pair,
 ) -> Result<Vector<O>, VectorFault>
     requires monic { All (IsMonicVector O.order VARIABLES) elements.now }
+    requires index { index.now ≡ map lead elements.now }
     requires proper { IsProper elements.now pair.now }
     ensures within { let g = get_or elements.now (pair.now.first - 1) [] in
         let h = get_or elements.now (pair.now.second - 1) [] in
@@ -203,5 +217,5 @@ fn remainder_of_pair<O: TermOrder>(
     let first = &elements[pair.first as usize - 1];
     let second = &elements[pair.second as usize - 1];
     let difference = s_vector(alloc, first, second)?;
-    normal_form(alloc, &difference, elements)
+    normal_form_fast(alloc, &difference, elements, index)
 }

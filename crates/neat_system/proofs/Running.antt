@@ -1,5 +1,5 @@
 -- A relay whose sectors are worked one after another.
-use Rattle.std.proofs.Common.{◌≡◌, ℕ, suc, ◌^◌, ◌≤◌, Bool, true, false, not, cond, List, [], ◌∷◌, ◌++◌, length, inl, inr, Some, None, refl, sym, ◌∙◌, ap, subst, arith}
+use Rattle.std.proofs.Common.{◌≡◌, ℕ, suc, ◌^◌, ◌≤◌, Bool, true, false, not, cond, List, [], ◌∷◌, ◌++◌, length, inl, inr, Some, None, refl, sym, ◌∙◌, ap, subst, arith, append-nil, append_assoc}
 use Rattle.std.specs.Prelude.{Contains}
 use Rattle.std.specs.List.Sorted.{IsStrictlySortedBy}
 use Rattle.std.proofs.lemmas.Bool.{eq-eqb}
@@ -27,7 +27,19 @@ use Rattle.family.proofs.SameFamily.{same_family, families_decide}
 use Rattle.sector_job.specs.PieceLaws.{opened, lawful}
 use Rattle.sector_job.specs.Results.{ResultValue, opening_of, tails_of_plan}
 use Rattle.sector_job.proofs.TailsNotZero.{tails_not_zero}
-use Rattle.neat_system.specs.Running.{IsUnderWay, Advances}
+use Rattle.neat_system.specs.Running.{IsUnderWay, Advances, Continues}
+
+-- a journal goes on from itself
+pub stays : (old new : List Event) → new ≡ old → Continues old new
+stays old new same = ([], same ∙ sym (append-nil old))
+
+-- and by two events
+pub goes_on_twice : (old mid new : List Event) (first second : Event) → mid ≡ old ++ first ∷ [] → new ≡ mid ++ second ∷ [] → Continues old new
+goes_on_twice old mid new first second one two = (first ∷ second ∷ [], two ∙ ap (λ es. es ++ second ∷ []) one ∙ append_assoc old (first ∷ []) (second ∷ []))
+
+-- and further
+pub goes_further : (old mid new : List Event) → Continues old mid → Continues mid new → Continues old new
+goes_further old mid new one two = (one.0 ++ two.0, two.1 ∙ ap (λ es. es ++ two.0) one.1 ∙ append_assoc old one.0 two.0)
 
 not_false : (b : Bool) → not b ≡ true → b ≡ false
 not_false true h = absurd (let e : false ≡ true = h in cc)

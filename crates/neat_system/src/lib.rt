@@ -1,6 +1,7 @@
 //! The system of a family.
 #![tactic(auto)]
 
+mod alone;
 mod closing;
 mod declared;
 mod fault;
@@ -12,6 +13,7 @@ mod plain;
 mod reductions;
 mod relations;
 
+pub use alone::{opened, work_all};
 pub use closing::close;
 pub use fault::SystemFault;
 pub use plain::run_plain;

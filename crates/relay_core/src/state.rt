@@ -245,6 +245,13 @@ impl<W: Piece> RelayState<W> {
     {
         holder_in(self.held.as_slice(), sector)
     }
+
+    /// Who holds which sectors, the latest taken last.
+    pub fn held(&self) -> &[Holding]
+        ensures { result.now ≡ self.now.progress.held }
+    {
+        self.held.as_slice()
+    }
 }
 
 // The job of a sector that is reached.

@@ -2,6 +2,8 @@
 #![tactic(auto)]
 
 #[cfg(test)]
+mod divisions;
+#[cfg(test)]
 mod lists;
 #[cfg(test)]
 mod monomials;

@@ -9,8 +9,12 @@ use sector_lattice::{Integral, Sector};
 use sparse_poly::Poly;
 use sparse_rows::Row;
 
-// A term of a vector is small.
-const _: () = prove!(size_of::<(Term, Residue)>() <= 32);
+// A term of a polynomial is small, and so are those of a vector and of a row.
+const _: () = prove!(size_of::<(Monomial, Residue)>() <= 32);
+
+const _: () = prove!(size_of::<(Term, Residue)>() <= 40);
+
+const _: () = prove!(size_of::<(Integral, Residue)>() <= 40);
 
 fn is_shared<T: Send + Sync>() {}
 

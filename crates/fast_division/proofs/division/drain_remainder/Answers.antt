@@ -4,7 +4,8 @@ use Rattle.mono_order.specs.declared.limits.TheConstants.{RUN_DEGREE}
 use Rattle.module_vec.specs.ModuleVector.{IsMonic, multiple_value}
 use Rattle.module_vec.specs.Division.{is_over_degree, multiple_with_lead}
 use Rattle.module_vec.proofs.DivisionLaws.{first_divisor-some}
-use Rattle.fast_division.proofs.Drains.{index_none, index_some, index_within, index_found, Cancels, cancelled_falls, Draining-moved, Draining-cancelled, Draining-over, Draining-end}
+use Rattle.fast_division.proofs.FirstNumbers.{index_none, index_some, index_within, index_found}
+use Rattle.fast_division.proofs.Drains.{Cancels, cancelled_falls, Draining-moved, Draining-cancelled, Draining-over, Draining-end}
 use Rattle.fast_division.proofs.division.drain_remainder.Goals as goal
 
 pub bounds-list-number : goal.bounds-list-number

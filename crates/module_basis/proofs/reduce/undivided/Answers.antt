@@ -1,37 +1,44 @@
-use Rattle.std.proofs.Common.{◌≡◌, ◌++◌, ◌∷◌, [], true, false, None, List, sym, subst, ◌∙◌}
-use Rattle.std.specs.List.{All}
-use Rattle.module_vec.specs.ModuleVector.{ModuleVector, lead, IsMonic}
+use Rattle.std.proofs.Common.{◌≡◌, ◌++◌, ◌∷◌, [], not, length, map, sym, subst, ap, ◌∙◌, arith}
+use Rattle.std.proofs.lemmas.List.{map-append, length-map}
+use Rattle.module_vec.specs.ModuleVector.{lead}
 use Rattle.module_vec.specs.Division.{first_divisor}
-use Rattle.module_basis.proofs.Keeping.{IsKeeping, IsKeeping-monic, IsKeeping-kept_monic, IsKeeping-added, IsKeeping-dropped, divisor_found}
+use Rattle.fast_division.proofs.FirstNumbers.{index_has_none, index_has_some}
+use Rattle.module_basis.proofs.Keeping.{IsKeeping, IsKeeping-monic, IsKeeping-added, IsKeeping-dropped, IsKeeping-short}
 use Rattle.module_basis.proofs.reduce.undivided.Goals as goal
 
-pub lead_term-requires : goal.lead_term-requires
-lead_term-requires g c =
-    (IsKeeping-monic g.met.O.TermOrder.laws c.args.sorted.items c.vectors.sorted.items c.pop.new.self.items c.in-Some.vector c.vectors.kept.items c.requires.monic c.in-Some.ensures.items c.vectors.invariant).monic
+pub lead_term-lead-requires : goal.lead_term-lead-requires
+lead_term-lead-requires g c =
+    (IsKeeping-monic g.met.O.TermOrder.laws c.args.sorted.items c.vectors.sorted.items c.pop.new.self.items c.in-Some.vector c.vectors.kept.items c.requires.monic c.in-Some.ensures.items c.vectors.invariant.keeping).monic
 
-pub is_divided-requires : goal.is_divided-requires
-is_divided-requires g c =
-    let items : c.deref.result.now ≡ c.vectors.kept.items = cc in
-    subst (λ (l : List ModuleVector). All IsMonic l) (sym items)
-    (IsKeeping-kept_monic g.met.O.TermOrder.laws c.args.sorted.items c.vectors.sorted.items c.vectors.kept.items c.requires.monic c.vectors.invariant)
+pub add-requires : goal.add-requires
+add-requires g c =
+    omega (
+      arith,
+      c.requires.few,
+      ap length c.vectors.invariant.index,
+      length-map c.vectors.kept.items lead,
+      IsKeeping-short g.met.O.TermOrder.laws c.args.sorted.items c.vectors.sorted.items c.vectors.kept.items c.vectors.invariant.keeping,
+    )
 
-pub vectors-preserved-in-Continue-1 : goal.vectors-preserved-in-Continue-1
-vectors-preserved-in-Continue-1 g c =
+pub vectors-preserved-in-Continue-branch-2 : goal.vectors-preserved-in-Continue-branch-2
+vectors-preserved-in-Continue-branch-2 g c =
     let laws = g.met.O.TermOrder.laws in
-    let items : c.deref.result.now ≡ c.vectors.kept.items = cc in
-    let none : first_divisor c.vectors.kept.items (lead c.in-Some.vector) ≡ None =
-    sym (λ i. first_divisor (items i) (c.lead_term.ensures.lead i)) ∙ c.is_divided.ensures.0 c.if-not-is_divided.true
-    in
+    let none = index_has_none c.vectors.kept.items c.vectors.index c.lead_term-lead.result c.first_divisor.result c.vectors.invariant.index c.first_divisor.ensures (c.is_none.ensures ∙ ap not c.if-is_none.true) in
     let pushed : c.push.new.self.items ≡ c.vectors.kept.items ++ c.in-Some.vector ∷ [] = c.in_ok-push.ensures.items in
-    subst (λ (l : List ModuleVector). IsKeeping laws c.args.sorted.items c.pop.new.self.items l) (sym pushed)
-    (IsKeeping-added laws c.args.sorted.items c.vectors.sorted.items c.pop.new.self.items c.in-Some.vector c.vectors.kept.items c.requires.monic c.requires.descends c.in-Some.ensures.items none c.vectors.invariant)
+    let leads : c.add.new.self ≡ map lead c.vectors.kept.items ++ lead c.in-Some.vector ∷ [] = c.in_ok-add.ensures.added ∙ (λ i. c.vectors.invariant.index i ++ c.lead_term-lead.ensures.lead i ∷ []) in
+    record {
+      keeping = subst (IsKeeping laws c.args.sorted.items c.pop.new.self.items) (sym pushed)
+          (IsKeeping-added laws c.args.sorted.items c.vectors.sorted.items c.pop.new.self.items c.in-Some.vector c.vectors.kept.items c.requires.monic c.requires.descends c.in-Some.ensures.items
+          (ap (first_divisor c.vectors.kept.items) (sym c.lead_term-lead.ensures.lead) ∙ none) c.vectors.invariant.keeping);
+      index = leads ∙ sym (ap (map lead) pushed ∙ map-append lead c.vectors.kept.items (c.in-Some.vector ∷ []));
+    }
 
 pub vectors-preserved : goal.vectors-preserved
 vectors-preserved g c =
     let laws = g.met.O.TermOrder.laws in
-    let items : c.deref.result.now ≡ c.vectors.kept.items = cc in
-    let found = divisor_found c.vectors.kept.items (lead c.in-Some.vector)
-    (λ none. let no : c.is_divided.result ≡ false = c.is_divided.ensures.1 ((λ i. first_divisor (items i) (c.lead_term.ensures.lead i)) ∙ none) in
-    let yes : c.is_divided.result ≡ true = c.if-not-is_divided.false in cc)
-    in
-    IsKeeping-dropped laws c.args.sorted.items c.vectors.sorted.items c.pop.new.self.items c.in-Some.vector c.vectors.kept.items found.0 c.in-Some.ensures.items found.1 c.vectors.invariant
+    let found = index_has_some c.vectors.kept.items c.vectors.index c.lead_term-lead.result c.first_divisor.result c.vectors.invariant.index c.first_divisor.ensures (c.is_none.ensures ∙ ap not c.if-is_none.false) in
+    record {
+      keeping = IsKeeping-dropped laws c.args.sorted.items c.vectors.sorted.items c.pop.new.self.items c.in-Some.vector c.vectors.kept.items found.0 c.in-Some.ensures.items
+          (ap (first_divisor c.vectors.kept.items) (sym c.lead_term-lead.ensures.lead) ∙ found.1) c.vectors.invariant.keeping;
+      index = c.vectors.invariant.index;
+    }

@@ -1,4 +1,4 @@
-use Rattle.std.proofs.Common.{◌≡◌, ◌≢◌, ◌↔◌, [], List, Err, sym, subst, rules, arith}
+use Rattle.std.proofs.Common.{◌≡◌, ◌≢◌, ◌↔◌, [], List, Err, refl, sym, subst, rules, arith}
 use Rattle.mono_order.specs.declared.limits.TheConstants.{VARIABLES, RUN_DEGREE}
 use Rattle.module_vec.specs.ModuleVector.{ModuleVector, IsMember}
 use Rattle.module_basis.specs.GroebnerBasis.{IsGroebnerBasis}
@@ -6,7 +6,7 @@ use Rattle.module_basis.specs.PlainRun.{TakesFirst, Over, RunsTo, Done, PairsSpe
 use Rattle.module_basis.specs.declared.fault.BasisFault.TheVariants as faults
 use Rattle.module_basis.proofs.RunEnds.{RunsTo-apart, fault_tells}
 use Rattle.module_basis.proofs.RunLaws.{run_groebner}
-use Rattle.module_basis.proofs.RunSteps.{IsUnderWay-opened, IsUnderWay-next, IsUnderWay-stopped, IsUnderWay-spent, IsUnderWay-done}
+use Rattle.module_basis.proofs.RunSteps.{TakesFirst-counts, IsUnderWay-opened, IsUnderWay-next, IsUnderWay-stopped, IsUnderWay-spent, IsUnderWay-done}
 use Rattle.module_basis.proofs.Stepping.{run_own_basis}
 use Rattle.module_basis.proofs.run.plain_run.Given as given
 use Rattle.module_basis.proofs.run.plain_run.Goals as goal
@@ -32,6 +32,12 @@ returns-in_err-run-2-clause-spent g c = λ memory. (stepped_tells g c memory).0
 pub returns-in_err-run-2-clause-over : goal.returns-in_err-run-2-clause-over
 returns-in_err-run-2-clause-over g c = λ memory. (stepped_tells g c memory).1
 
+pub pairs-smaller : goal.pairs-smaller
+pairs-smaller g c =
+    let apart : c.pairs.run.taken ≢ c.args.pairs = λ same. omega (arith, same, c.taken.ensures, c.if-taken-pairs.false) in
+    let counts = TakesFirst-counts g.O.TermOrder.order RUN_DEGREE c.pairs.run c.in_ok-run-2.run' c.in_ok-run-2.ensures.next in
+    omega (arith, counts.1, c.pairs.invariant.taken, apart)
+
 pub pairs-preserved : goal.pairs-preserved
 pairs-preserved g c =
     let apart : c.pairs.run.taken ≢ c.args.pairs = λ same. omega (arith, same, c.taken.ensures, c.if-taken-pairs.false) in
@@ -49,6 +55,13 @@ returns-clause-basis g c =
     subst (λ (l : List ModuleVector). IsGroebnerBasis g.O.TermOrder.order (IsMember VARIABLES c.args.generators.now) l) (sym c.finished.ensures.elements)
     (run_groebner g.met.O.TermOrder.laws c.args.generators.now c.in_ok-run.ensures.vectors c.requires.not_zero RUN_DEGREE c.args.pairs c.pairs.run.elements c.pairs.run.taken
     (IsUnderWay-done g.O.TermOrder.order RUN_DEGREE c.args.generators.now c.args.pairs c.pairs.run c.pairs.invariant none))
+
+pub returns-then-taken-pairs-clause-spent : goal.returns-then-taken-pairs-clause-spent
+returns-then-taken-pairs-clause-spent g c = λ memory.
+    let left : c.pairs.run.pairs ≢ [] = search rules in (
+      λ e. IsUnderWay-spent g.O.TermOrder.order RUN_DEGREE c.args.generators.now c.args.pairs c.pairs.run c.pairs.invariant (omega (arith, c.taken.ensures, c.if-taken-pairs.true)) left,
+      λ h. refl,
+    )
 
 pub returns-then-taken-pairs-clause-over : goal.returns-then-taken-pairs-clause-over
 returns-then-taken-pairs-clause-over g c = λ memory.

@@ -1,9 +1,10 @@
-use Rattle.std.proofs.Common.{◌≡◌, ◌+◌, ◌++◌, ◌∷◌, [], List, length, sym, subst, ap, ◌∙◌}
+use Rattle.std.proofs.Common.{◌≡◌, ◌+◌, ◌++◌, ◌∷◌, [], List, length, map, sym, subst, ap, ◌∙◌, arith}
+use Rattle.std.proofs.lemmas.List.{map-append, length-map}
 use Rattle.mono_order.specs.declared.limits.TheConstants.{VARIABLES}
 use Rattle.pair_queue.specs.declared.queue.Pair.{Pair}
 use Rattle.pair_queue.specs.Pairs.{insert_pairs}
 use Rattle.module_vec.specs.ModuleVector.{ModuleVector, lead, IsMonicVector}
-use Rattle.module_basis.specs.PlainRun.{run_state, AreNewPairs, pairs_with, IsSoundState}
+use Rattle.module_basis.specs.PlainRun.{RunState, run_state, AreNewPairs, pairs_with, IsSoundState}
 use Rattle.module_basis.proofs.Forming.{AreNewPairs-formed, IsSoundState-added}
 use Rattle.module_basis.proofs.run.Run.added.Goals as goal
 
@@ -13,10 +14,10 @@ push_all-requires g c =
     let elements : c.deref.result.now ≡ c.self.inside.elements.items = cc in
     let formed : c.deref-2.result.now ≡ c.in_ok-formed.formed.items = cc in
     let pairs : c.deref-2.result.now ≡ pairs_with (length c.self.inside.elements.items + 1) (lead c.args.element) 1 c.self.inside.elements.items =
-    formed ∙ (c.in_ok-formed.ensures.formed ∙ (λ i. pairs_with (length (elements i) + 1) (c.lead_term.ensures.lead i) 1 (elements i)))
+    formed ∙ (c.in_ok-formed.ensures.formed ∙ (λ i. pairs_with (length (elements i) + 1) (c.lead_term-lead.ensures.lead i) 1 (elements i)))
     in
     subst (λ (l : List Pair). AreNewPairs order l c.self.inside.pairs) (sym pairs)
-    (AreNewPairs-formed order VARIABLES (run_state c.self.inside.elements.items c.self.inside.pairs c.self.inside.taken) c.args.element c.self.invariant)
+    (AreNewPairs-formed order VARIABLES (run_state c.self.inside.elements.items c.self.inside.pairs c.self.inside.taken) c.args.element c.self.invariant.0)
 
 pub invariant_of-result : goal.invariant_of-result
 invariant_of-result g c =
@@ -24,14 +25,22 @@ invariant_of-result g c =
     let elements : c.deref.result.now ≡ c.self.inside.elements.items = cc in
     let formed : c.deref-2.result.now ≡ c.in_ok-formed.formed.items = cc in
     let pairs : c.deref-2.result.now ≡ pairs_with (length c.self.inside.elements.items + 1) (lead c.args.element) 1 c.self.inside.elements.items =
-    formed ∙ (c.in_ok-formed.ensures.formed ∙ (λ i. pairs_with (length (elements i) + 1) (c.lead_term.ensures.lead i) 1 (elements i)))
+    formed ∙ (c.in_ok-formed.ensures.formed ∙ (λ i. pairs_with (length (elements i) + 1) (c.lead_term-lead.ensures.lead i) 1 (elements i)))
     in
-    let kept = c.lead_term.ensures.kept in
+    let kept = c.lead_term-lead.ensures.kept in
     let monic : IsMonicVector order VARIABLES c.args.element = record { canonical = kept.canonical; terms = kept.terms; monic = c.requires.monic } in
     let queue : c.push_all.new.queue ≡ insert_pairs order (pairs_with (length c.self.inside.elements.items + 1) (lead c.args.element) 1 c.self.inside.elements.items) c.self.inside.pairs =
     c.in_ok-push_all.ensures ∙ ap (λ (l : List Pair). insert_pairs order l c.self.inside.pairs) pairs
     in
     let items : c.push.new.self.items ≡ c.self.inside.elements.items ++ c.args.element ∷ [] = c.in_ok-push.ensures.items in
-    let sound = IsSoundState-added order VARIABLES (run_state c.self.inside.elements.items c.self.inside.pairs c.self.inside.taken) c.args.element c.self.inside.taken c.self.invariant monic in
-    subst (λ (l : List ModuleVector). IsSoundState order VARIABLES (run_state l c.push_all.new.queue c.self.inside.taken)) (sym items)
+    let sound = IsSoundState-added order VARIABLES (run_state c.self.inside.elements.items c.self.inside.pairs c.self.inside.taken) c.args.element c.self.inside.taken c.self.invariant.0 monic in
+    let state = subst (λ (l : List ModuleVector). IsSoundState order VARIABLES (run_state l c.push_all.new.queue c.self.inside.taken)) (sym items)
     (subst (λ (l : List Pair). IsSoundState order VARIABLES (run_state (c.self.inside.elements.items ++ c.args.element ∷ []) l c.self.inside.taken)) (sym queue) sound)
+    in
+    let leads : c.add.new.self ≡ map lead c.self.inside.elements.items ++ lead c.args.element ∷ [] =
+    c.in_ok-add.ensures.added ∙ (λ i. c.self.invariant.1 i ++ c.lead_term-lead.ensures.lead i ∷ [])
+    in
+    (state, leads ∙ sym (ap (map lead) items ∙ map-append lead c.self.inside.elements.items (c.args.element ∷ [])))
+
+pub add-requires : goal.add-requires
+add-requires g c = omega (arith, c.requires.few, ap (λ (s : RunState). length s.elements) c.self.view_is, ap length c.self.invariant.1, length-map c.self.inside.elements.items lead)

@@ -1,0 +1,10 @@
+//! The system of a family, worked out by several workers at a desk.
+#![tactic(auto)]
+
+mod finishing;
+mod seats;
+mod worker;
+mod workers;
+
+pub use finishing::finish_alone;
+pub use workers::run_workers;

@@ -1,0 +1,118 @@
+// What one worker does at its seat.
+ghost use Rattle.std.specs.Prelude.{◌≡◌, ◌↔◌, IsTrue};
+ghost use Rattle.neat_workers.specs.Seats.{KeepsParts};
+ghost use Rattle.neat_workers.specs.Jobs.{FitsFamily};
+
+use family::Family;
+use ibp_outside::Gate;
+use relay_core::{Job, Taken};
+use relay_desk::{Desk, Seat};
+use sector_job::{Plan, SectorResult, work};
+use sector_lattice::Sector;
+use std::alloc::Global;
+use std::sync::Wait;
+use std::sync::ledger::Ledger;
+
+// The next job. None where all is done or memory ran out.
+fn next_job<L: Ledger, C: Ledger, R: Wait>(
+    rt: &R,
+    desk: &Desk<SectorResult, L, C>,
+    seat: &mut Seat<L, C>,
+) -> Option<Job>
+    ensures { KeepsParts seat.old seat.new }
+{
+    let mut guard = desk.locked.lock(rt);
+    for _ in rt.forever() {
+        match guard.take(seat) {
+            Ok(Taken::Job(job)) => return Some(job),
+            Ok(Taken::NotYet) => guard = desk.changed.wait(rt, guard),
+            Ok(Taken::Closed) | Err(_) => return None,
+        }
+    }
+    unreachable!()
+}
+
+// Whether the job's targets have the family's powers, and its sector isn't zero. A lock tells nothing of whose plan the
+// relay behind it has.
+fn fits(family: &Family, job: &Job) -> bool
+    ensures { IsTrue result ↔ FitsFamily family.now job.now }
+{
+    let n = family.n;
+    !family.is_zero(job.sector) && job.targets.as_slice().iter().all(|target| target.n() == n)
+}
+
+// What comes of a job. None where it doesn't fit, or memory ran out.
+fn worked(alloc: Global, plan: &Plan, job: &Job) -> Option<SectorResult> {
+    if !fits(plan.family(), job) {
+        return None;
+    }
+    work(alloc, plan, job).ok()
+}
+
+// Finishes a sector with its piece, and answers whether that went through.
+fn finish_with<L: Ledger, C: Ledger, R: Wait>(
+    rt: &R,
+    desk: &Desk<SectorResult, L, C>,
+    seat: &mut Seat<L, C>,
+    piece: SectorResult,
+) -> bool
+    ensures { KeepsParts seat.old seat.new }
+{
+    desk.locked.lock(rt).finish(seat, piece).is_ok()
+}
+
+// Works on a job while no lock is held, and finishes its sector. Where either fails the answer is no.
+fn work_on<L: Ledger, C: Ledger, R: Wait>(
+    rt: &R,
+    alloc: Global,
+    plan: &Plan,
+    desk: &Desk<SectorResult, L, C>,
+    seat: &mut Seat<L, C>,
+    job: &Job,
+) -> bool
+    ensures { KeepsParts seat.old seat.new }
+{
+    match worked(alloc, plan, job) {
+        Some(piece) => finish_with(rt, desk, seat, piece),
+        None => false,
+    }
+}
+
+// Gives a sector back.
+fn give_back<L: Ledger, C: Ledger, R: Wait>(
+    rt: &R,
+    desk: &Desk<SectorResult, L, C>,
+    seat: &Seat<L, C>,
+    sector: Sector,
+) {
+    let _ = desk.locked.lock(rt).give_back(seat, sector);
+}
+
+/// Takes a job, passes the gate, works and finishes, until all is done. A worker that cannot finish a job gives its
+/// sector back and ends, and the others go on.
+pub fn work_at<L: Ledger, C: Ledger, R: Wait, G: Gate>(
+    rt: &R,
+    alloc: Global,
+    plan: &Plan,
+    desk: &Desk<SectorResult, L, C>,
+    gate: &G,
+    seat: &mut Seat<L, C>,
+)
+    ensures { KeepsParts seat.old seat.new }
+{
+    for _ in rt.forever() {
+        let Some(job) = next_job(rt, desk, seat) else {
+            return;
+        };
+        desk.changed.notify_all();
+        gate.pass(seat.worker(), job.sector.0);
+        let finished = work_on(rt, alloc, plan, desk, seat, &job);
+        if !finished {
+            give_back(rt, desk, seat, job.sector);
+        }
+        desk.changed.notify_all();
+        if !finished {
+            return;
+        }
+    }
+}

@@ -1,0 +1,102 @@
+// One thread calls a desk for two seats.
+ghost use Rattle.std.specs.Prelude.{◌≡◌};
+ghost use Rattle.neat_workers.specs.Seats.{KeepsParts};
+
+use crate::fixtures::{QUAD, plan_of, worked};
+use neat_system::opened;
+use relay_core::Taken;
+use relay_desk::{Desk, Opened, Seat};
+use sector_job::{Plan, SectorResult};
+use sector_lattice::Sector;
+use std::alloc::Global;
+use std::marker::Brand;
+use std::process::Abort;
+use std::sync::Wait;
+use std::sync::ledger::{Blank, Ledger};
+use std::test::*;
+
+// The result of the next job that the desk hands out, which is of this sector.
+fn next_result<L: Ledger, C: Ledger, R: Wait + Abort>(
+    rt: &R,
+    alloc: Global,
+    plan: &Plan,
+    desk: &Desk<SectorResult, L, C>,
+    seat: &mut Seat<L, C>,
+    number: u16,
+) -> SectorResult
+    ensures { KeepsParts seat.old seat.new }
+{
+    let taken = desk.locked.lock(rt).take(seat).ok().expect(rt, "memory");
+    match taken {
+        Taken::Job(job) => {
+            assert!(rt; job.sector == Sector(number), "another sector");
+            worked(rt, alloc, plan, &job)
+        }
+        Taken::NotYet | Taken::Closed => panic!(rt; "no job"),
+    }
+}
+
+// While the first seat holds sector 1 the second one must wait, and cannot give the sector back.
+fn wait_for_the_first<L: Ledger, C: Ledger, R: Wait + Abort>(
+    rt: &R,
+    desk: &Desk<SectorResult, L, C>,
+    second: &mut Seat<L, C>,
+)
+    ensures { KeepsParts second.old second.new }
+{
+    let waits = matches!(desk.locked.lock(rt).take(second), Ok(Taken::NotYet));
+    assert!(rt; waits);
+    assert!(rt; desk.locked.lock(rt).give_back(second, Sector(1)).is_err());
+}
+
+// The first seat posts the tail of sector 1, gives the sector back, and then finishes both sectors.
+fn finish_both<L: Ledger, C: Ledger, R: Wait + Abort>(
+    rt: &R,
+    alloc: Global,
+    plan: &Plan,
+    desk: &Desk<SectorResult, L, C>,
+    first: &mut Seat<L, C>,
+    second: &mut Seat<L, C>,
+)
+    ensures first { KeepsParts first.old first.new }
+    ensures second { KeepsParts second.old second.new }
+{
+    let piece = next_result(rt, alloc, plan, desk, first, 1);
+    wait_for_the_first(rt, desk, second);
+    assert!(rt; desk.locked.lock(rt).post(first, &piece, 0, 1).is_ok());
+    assert!(rt; desk.locked.lock(rt).give_back(first, Sector(1)).is_ok());
+    let again = next_result(rt, alloc, plan, desk, first, 1);
+    assert!(rt; desk.locked.lock(rt).finish(first, again).is_ok());
+    let last = next_result(rt, alloc, plan, desk, first, 0);
+    assert!(rt; desk.locked.lock(rt).finish(first, last).is_ok());
+    let closed = matches!(desk.locked.lock(rt).take(first), Ok(Taken::Closed));
+    assert!(rt; closed);
+}
+
+// How many sectors the desk counts in the end.
+fn count_of<L: Ledger, C: Ledger, R: Wait + Abort>(
+    rt: &R,
+    alloc: Global,
+    finishes: Blank,
+    closings: Blank,
+) -> u64
+    requires finishes { (finishes.name ≡ L.name) × (finishes.parts ≡ L.parts) × (L.parts ≡ 2) }
+    requires closings { (closings.name ≡ C.name) × (closings.parts ≡ C.parts) × (C.parts ≡ 2) }
+{
+    let plan = plan_of(rt, alloc, QUAD);
+    let relay = opened(alloc, &plan).ok().expect(rt, "memory");
+    let desk = Desk::<SectorResult, L, C>::open(alloc, relay, 2, finishes, closings);
+    let Opened { desk, mut seats } = desk.ok().expect(rt, "memory");
+    let (first, rest) = seats.as_mut_slice().split_at_mut(1);
+    finish_both(rt, alloc, &plan, &desk, &mut first[0], &mut rest[0]);
+    let (relay, count) = desk.into_state(seats);
+    assert!(rt; relay.is_closed());
+    count
+}
+
+#[test]
+fn a_desk_counts_the_finished_sectors(rt: HostRuntime) {
+    let alloc = rt.alloc();
+    let count = count_of::<Brand, Brand, HostRuntime>(&rt, alloc, Blank::new(2), Blank::new(2));
+    assert_eq!(rt; count, 2);
+}
