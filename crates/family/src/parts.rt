@@ -25,8 +25,8 @@ pub struct StrippedField {
 }
 
 /// Which seeds of a sector are taken: at most the cap of dots and of rank, where the sector has no caps of
-/// its own, and at most so many more than the targets have. The dots of an integral are what its positive powers have above 1, added up; its rank
-/// is the sum of its other powers without the sign.
+/// its own, and at most so many more than the targets have. The dots of an integral are what its positive
+/// powers have above 1, added up; its rank is the sum of its other powers without the sign.
 #[derive(Clone, Copy, Debug, PartialEq, Eq)]
 pub struct Bounds {
     /// No seed has more dots: 0 to 20.

@@ -1,5 +1,7 @@
 pub mod Buchberger
+pub mod ChainCriterion
 pub mod SVectors
+pub mod Dropping
 pub mod RunLaws
 pub mod ReducedBases
 pub mod UniqueBasis

@@ -7,7 +7,7 @@ use Rattle.module_vec.specs.ModuleVector.{ModuleVector, lead, multiple_value}
 use Rattle.module_vec.specs.Division.{Division, Remainder, OverDegree, divide, is_over_degree, monic_of, multiple_with_lead, s_vector}
 use Rattle.pair_queue.specs.declared.queue.Pair.{Pair}
 use Rattle.pair_queue.specs.Pairs.{insert_pairs}
-use Rattle.module_basis.specs.PlainRun.{RunState, Done, Step, Next, Over, pairs_with, has_pair_over, with_element, with_generators, step_to, with_remainder, element, take_pair, without_pair, after_step, run_pairs, run_from, opening, RunsTo}
+use Rattle.module_basis.specs.PlainRun.{RunState, pairs_left, Done, Step, Next, Over, pairs_with, has_pair_over, with_element, with_generators, step_to, with_remainder, element, take_pair, without_pair, after_step, run_pairs, run_from, opening, RunsTo}
 
 added_if : (b : Bool) (state added next : RunState) → length added.elements ≡ length state.elements + 1 → added.taken ≡ state.taken → (if b then None else Some added) ≡ Some next
     → (length next.elements ≡ length state.elements + 1) × (next.taken ≡ state.taken)
@@ -60,13 +60,13 @@ run_pairs-counts order limit steps budget [] state list taken e =
 run_pairs-counts order limit steps zero (pair ∷ others) state list taken e = cc
 run_pairs-counts order limit steps (suc budget) (pair ∷ others) state list taken e =
     elim (take_pair order limit steps pair (without_pair others state)) as (λ x. take_pair order limit steps pair (without_pair others state) ≡ x
-    → after_step (λ next. run_pairs order limit steps budget next.pairs next) x ≡ Some (Done list taken)
+    → after_step (λ next. run_pairs order limit steps budget (pairs_left next) next) x ≡ Some (Done list taken)
     → (taken ≤ state.taken + suc budget) × (length list + state.taken ≤ length state.elements + taken)) [
       | None ↦ λ d k. cc
       | Some Over ↦ λ d k. cc
       | Some (Next next) ↦ λ d k.
           let counts = take_pair-counts order limit steps pair (without_pair others state) next d in
-          let rest = run_pairs-counts order limit steps budget next.pairs next list taken k in
+          let rest = run_pairs-counts order limit steps budget (pairs_left next) next list taken k in
           (omega (arith, counts.0, counts.1, rest.0), omega (arith, counts.0, counts.1, rest.1))
     ] refl e
 
@@ -90,7 +90,7 @@ run_from-counts : (order : Term → Term → Ordering) (limit steps budget : ℕ
 run_from-counts order limit steps budget generators None opens list taken e = cc
 run_from-counts order limit steps budget generators (Some state) opens list taken e =
     let first = generators-counts order limit generators (record { elements = []; pairs = []; taken = 0 }) state opens in
-    let run = run_pairs-counts order limit steps budget state.pairs state list taken e in
+    let run = run_pairs-counts order limit steps budget (pairs_left state) state list taken e in
     (omega (arith, first.1, run.0), omega (arith, first.0, first.1, run.1))
 
 pub opening-counts : (order : Term → Term → Ordering) (limit : ℕ) (generators : List ModuleVector) (state : RunState) → opening order limit generators ≡ Some state

@@ -7,7 +7,7 @@ use Rattle.module_vec.specs.ModuleVector.{ModuleVector}
 use Rattle.module_vec.specs.Division.{Division}
 use Rattle.module_vec.proofs.DivisionLaws.{divide-more}
 use Rattle.pair_queue.specs.declared.queue.Pair.{Pair}
-use Rattle.module_basis.specs.PlainRun.{RunState, RunEnd, Step, Next, Over, with_remainder, take_pair, without_pair, after_step, run_pairs, run_from, opening, RunsTo, PairsSpent, DegreeOver}
+use Rattle.module_basis.specs.PlainRun.{RunState, pairs_left, RunEnd, Step, Next, Over, with_remainder, take_pair, without_pair, after_step, run_pairs, run_from, opening, RunsTo, PairsSpent, DegreeOver}
 use Rattle.module_basis.specs.declared.fault.BasisFault.{BasisFault}
 use Rattle.module_basis.specs.declared.fault.BasisFault.TheVariants as faults
 
@@ -40,12 +40,12 @@ run_pairs-more order limit n m le budget [] state end e = e
 run_pairs-more order limit n m le zero (pair ∷ others) state end e = e
 run_pairs-more order limit n m le (suc budget) (pair ∷ others) state end e =
     after-more _ _ _ _ end (λ s k. take_pair-more order limit n m le pair (without_pair others state) s k)
-    (λ next k. run_pairs-more order limit n m le budget next.pairs next end k) e
+    (λ next k. run_pairs-more order limit n m le budget (pairs_left next) next end k) e
 
 run_from-more : (order : Term → Term → Ordering) (limit n m : ℕ) → n ≤ m → (budget : ℕ) (start : Option RunState) (end : RunEnd)
     → run_from order limit n budget start ≡ Some end → run_from order limit m budget start ≡ Some end
 run_from-more order limit n m le budget None end e = e
-run_from-more order limit n m le budget (Some state) end e = run_pairs-more order limit n m le budget state.pairs state end e
+run_from-more order limit n m le budget (Some state) end e = run_pairs-more order limit n m le budget (pairs_left state) state end e
 
 -- A run ends in one way.
 pub RunsTo-unique : (order : Term → Term → Ordering) (limit : ℕ) (generators : List ModuleVector) (budget : ℕ) (first second : RunEnd)

@@ -1,11 +1,11 @@
 -- The plain run keeps this: its elements are monic and lie in the module of the generators, which lie in the
--- module of the elements, and each pair of elements is still to be taken or has a standard representation.
+-- module of the elements, and each pair of elements is still to be taken or has a standard representation. A pair that
+-- was taken has it by the remainder, and one that was dropped by two pairs that went earlier.
 -- So the list of a done run is a Groebner basis.
 use Rattle.std.proofs.Common.{◌≡◌, ◌≢◌, ℕ, zero, suc, ◌+◌, ◌-◌, ◌<◌, ◌≤◌, Bool, true, false, ◌||◌, if◌then◌else◌, Option, Some, None, ◌⊎◌, inl, inr, ⊎_elim, length, get_or, List, [], ◌∷◌, ◌++◌, sym, refl, ap, subst, ◌∙◌, arith, length-append, append-nil, append_assoc}
-use Rattle.std.specs.Prelude.{nat_eq, max}
+use Rattle.std.specs.Prelude.{nat_eq}
 use Rattle.std.specs.List.{All, AllByRecursion, Contains}
 use Rattle.std.specs.Cmp.{unsigned_Decides}
-use Rattle.std.proofs.Math.Nat.{max_comm}
 use Rattle.std.proofs.Math.Seq.{get_or-append_seam}
 use Rattle.std.proofs.lemmas.Bool.{cases_lt}
 use Rattle.std.proofs.lemmas.List.{get_or_append_left, get_or_default}
@@ -13,11 +13,10 @@ use Rattle.std.proofs.lemmas.List.Elements.{All-contains, All-weaker, All-push, 
 use Rattle.std.specs.declared.cmp.Ordering.{Ordering}
 use Rattle.std.specs.declared.cmp.Ordering.TheVariants.{Greater}
 use Rattle.ibp_base.proofs.Members.{in_cases, in_head, in_tail, in_none}
-use Rattle.ibp_algebra.specs.Combination.{IsEqualBelow}
+use Rattle.ibp_base.proofs.Tests.{both_true}
 use Rattle.ibp_algebra.proofs.Canonical.{Greater-trans}
-use Rattle.ibp_algebra.proofs.Combinations.{AllKeys-weaker, IsEqualBelow-refl, IsEqualBelow-sym}
-use Rattle.ibp_algebra.proofs.ExponentLaws.{padded_sum_comm}
-use Rattle.mono_order.specs.Term.{Term, same_term, lcm_term}
+use Rattle.ibp_algebra.proofs.Combinations.{AllKeys-weaker, IsEqualBelow-refl}
+use Rattle.mono_order.specs.Term.{Term, same_term, lcm_term, divides}
 use Rattle.mono_order.specs.TermOrder.{IsTermOrder}
 use Rattle.mono_order.proofs.Terms.{terms_decide, IsTerm-lcm, length-quotient}
 use Rattle.module_vec.specs.ModuleVector.{ModuleVector, lead, IsVector, IsMonicVector, multiple_value, multiple_lead, IsMultipleOf, IsMember}
@@ -29,11 +28,12 @@ use Rattle.module_vec.proofs.DivisionLaws.{divide_reduces, divide_ends}
 use Rattle.module_basis.proofs.SVectors.{meets, AllBelow-s_vector, IsCanonical-s_vector, AllKeys-s_vector, standard_from_zero, standard_from_new}
 use Rattle.module_basis.proofs.RunEnds.{take_pair-more, run_pairs-more}
 use Rattle.module_basis.proofs.Buchberger.{buchberger}
+use Rattle.module_basis.proofs.ChainCriterion.{HasStandardRepresentation-sym, chain_criterion, has_pair-Contains, gone_up, gone_down, dropped_through}
 use Rattle.module_vec.specs.Division.{Division, Remainder, OverDegree, divide, monic_of, multiple_with_lead, s_vector, ReducesTo, is_over_degree}
 use Rattle.module_basis.specs.GroebnerBasis.{HasStandardRepresentation, AllPairsReduce, IsGroebnerBasis}
 use Rattle.pair_queue.specs.declared.queue.Pair.{Pair}
-use Rattle.pair_queue.specs.Pairs.{insert_pair, insert_pairs}
-use Rattle.module_basis.specs.PlainRun.{pair_at, IsProper, pairs_with, RunState, with_element, has_pair_over, with_generators, opening, RunEnd, Done, PairsSpent, DegreeOver, Step, Next, Over, step_to, with_remainder, take_pair, without_pair, after_step, run_pairs, run_from, RunsTo}
+use Rattle.pair_queue.specs.Pairs.{insert_pair, insert_pairs, has_pair}
+use Rattle.module_basis.specs.PlainRun.{pair_at, IsProper, pairs_with, is_left, is_dropped, undropped, pairs_left, RunState, with_element, has_pair_over, with_generators, opening, RunEnd, Done, PairsSpent, DegreeOver, Step, Next, Over, step_to, with_remainder, take_pair, without_pair, after_step, run_pairs, run_from, RunsTo}
 
 -- ---- pairs in a list
 
@@ -423,6 +423,102 @@ module _ {variables : ℕ} {order : Term → Term → Ordering} {high : ℕ → 
             rw (old_g, old_h) standard))
       ] refl taken
 
+  -- ---- a pair is dropped
+
+  -- a pair of the elements that is gone has a representation
+  gone_standard : (generators added elements : List ModuleVector) (pair : Pair) (others : List Pair) → IsRunState order variables (Listed (pair ∷ others)) generators added elements
+      → (i j : ℕ) → i < j → j < length elements → (lead (get_or elements i [])).0 ≡ (lead (get_or elements j [])).0
+      → (1 + i ≡ pair.first → j + 1 ≡ pair.second → ⊥) → has_pair others (1 + i) (j + 1) ≡ false
+      → HasStandardRepresentation order variables elements (get_or elements i []) (get_or elements j [])
+  unfolding pair_at
+  gone_standard generators added elements pair others s i j below within component other gone =
+      elim (s.settled i j below within component) as (λ x. HasStandardRepresentation order variables elements (get_or elements i []) (get_or elements j [])) [
+        | inl (inl same) ↦ absurd (other (sym (ap (λ (q : Pair). q.first) same)) (sym (ap (λ (q : Pair). q.second) same)))
+        | inl (inr listed) ↦
+            let left = has_pair-Contains others _ (contained others _ listed) in
+            let clash : true ≡ false = sym left ∙ gone in
+            absurd (cc)
+        | inr r ↦ r
+      ]
+
+  -- the same, in whichever order the two numbers stand
+  gone_either : (generators added elements : List ModuleVector) (pair : Pair) (others : List Pair) → IsRunState order variables (Listed (pair ∷ others)) generators added elements
+      → (i j : ℕ) → i < length elements → j < length elements → i ≢ j → (lead (get_or elements i [])).0 ≡ (lead (get_or elements j [])).0
+      → (1 + i ≡ pair.first → 1 + j ≡ pair.second → ⊥) → (1 + j ≡ pair.first → 1 + i ≡ pair.second → ⊥) → is_left others (1 + i) (1 + j) ≡ false
+      → HasStandardRepresentation order variables elements (get_or elements i []) (get_or elements j [])
+  gone_either generators added elements pair others s i j first second apart component up down gone =
+      let i_number : 1 + i ≡ i + 1 = omega arith in
+      let j_number : 1 + j ≡ j + 1 = omega arith in
+      ⊎_elim
+      (λ (below : i < j).
+      gone_standard generators added elements pair others s i j below second component (λ a b. up a (omega (arith, b)))
+      (subst (λ n. has_pair others (1 + i) n ≡ false) j_number (gone_up others (1 + i) (1 + j) (omega (arith, below)) gone)))
+      (λ (le : j ≤ i).
+      let below : j < i = omega (arith, le, apart) in
+      HasStandardRepresentation-sym order variables elements (get_or elements i []) (get_or elements j []) component
+      (gone_standard generators added elements pair others s j i below first (sym component) (λ a b. down a (omega (arith, b)))
+      (subst (λ n. has_pair others (1 + j) n ≡ false) i_number (gone_down others (1 + i) (1 + j) (omega (arith, below)) gone))))
+      (cases_lt i j)
+
+  -- a pair that the criterion drops has one
+  dropped_standard : (generators added elements : List ModuleVector) (pair : Pair) (others : List Pair) → IsRunState order variables (Listed (pair ∷ others)) generators added elements
+      → is_dropped 1 elements others pair ≡ true → (p : IsProper elements pair)
+      → HasStandardRepresentation order variables elements (get_or elements p.i []) (get_or elements p.j [])
+  unfolding pair_at
+  dropped_standard generators added elements pair others s dropped p =
+      let t = dropped_through 1 elements others pair dropped in
+      let first : pair.first ≡ 1 + p.i = ap (λ (q : Pair). q.first) p.is in
+      let second : pair.second ≡ p.j + 1 = ap (λ (q : Pair). q.second) p.is in
+      let second_number : pair.second ≡ 1 + p.j = omega (arith, second) in
+      let g = get_or elements p.i [] in
+      let h = get_or elements t.place [] in
+      let k = get_or elements p.j [] in
+      let i_within : p.i < length elements = omega (arith, p.ordered, p.within) in
+      let not_i : p.i ≢ t.place = λ e. t.not_first (omega (arith, e, first)) in
+      let not_j : t.place ≢ p.j = λ e. t.not_second (omega (arith, e, second)) in
+      let through : divides (lead h) (lcm_term (lead g) (lead k)) ≡ true = ap (divides (lead h)) (sym (ap (λ (q : Pair). q.lcm) p.is)) ∙ t.through in
+      let component : (lead h).0 ≡ (lead g).0 = (unsigned_Decides (lead h).0 (lead g).0).0 (both_true _ _ through).0 in
+      let left_gone : is_left others (1 + p.i) (1 + t.place) ≡ false = subst (λ n. is_left others n (1 + t.place) ≡ false) first t.first_gone in
+      let right_gone : is_left others (1 + p.j) (1 + t.place) ≡ false = subst (λ n. is_left others n (1 + t.place) ≡ false) second_number t.second_gone in
+      let left =
+      gone_either generators added elements pair others s p.i t.place i_within t.within not_i (sym component)
+      (λ a b. t.not_second (omega (arith, b))) (λ a b. t.not_first (omega (arith, a))) left_gone
+      in
+      let right =
+      gone_either generators added elements pair others s p.j t.place p.within t.within (λ e. not_j (sym e)) (sym p.component ∙ sym component)
+      (λ a b. t.not_second (omega (arith, b))) (λ a b. t.not_first (omega (arith, a))) right_gone
+      in
+      chain_criterion laws elements s.monic g h k (Contains-get_or elements p.i [] i_within) (Contains-get_or elements t.place [] t.within) (Contains-get_or elements p.j [] p.within)
+      p.component through left
+      (HasStandardRepresentation-sym order variables elements h k (component ∙ p.component) right)
+
+  dropped_state : (generators added elements : List ModuleVector) (pair : Pair) (others : List Pair) → IsRunState order variables (Listed (pair ∷ others)) generators added elements
+      → is_dropped 1 elements others pair ≡ true → IsRunState order variables (Listed others) generators added elements
+  dropped_state generators added elements pair others s dropped =
+      let p = s.proper pair (inl refl) in
+      let standard = dropped_standard generators added elements pair others s dropped p in
+      with_pending order variables (Listed (pair ∷ others)) (Listed others) generators added elements s (λ q l. inr l)
+      (λ i j within listed.
+      elim listed as (λ x. Listed others (pair_at elements i j) ⊎ HasStandardRepresentation order variables elements (get_or elements i []) (get_or elements j [])) [
+        | inl same ↦
+            let places = same_places elements elements p.i p.j i j (sym p.is ∙ same) in
+            inr (rw (← places.0, ← places.1) standard)
+        | inr l ↦ inl l
+      ])
+
+  undropped_if : (b : Bool) (generators added elements : List ModuleVector) (pair : Pair) (others : List Pair) → is_dropped 1 elements others pair ≡ b
+      → IsRunState order variables (Listed (pair ∷ others)) generators added elements
+      → (IsRunState order variables (Listed others) generators added elements → IsRunState order variables (Listed (undropped elements others)) generators added elements)
+      → IsRunState order variables (Listed (if b then undropped elements others else (pair ∷ others))) generators added elements
+  undropped_if true generators added elements pair others e s later = later (dropped_state generators added elements pair others s e)
+  undropped_if false generators added elements pair others e s later = s
+
+  undropped_state : (generators added elements : List ModuleVector) (pairs : List Pair) → IsRunState order variables (Listed pairs) generators added elements
+      → IsRunState order variables (Listed (undropped elements pairs)) generators added elements
+  undropped_state generators added elements [] s = s
+  undropped_state generators added elements (pair ∷ others) s =
+      undropped_if (is_dropped 1 elements others pair) generators added elements pair others refl s (undropped_state generators added elements others)
+
   -- ---- the run
 
   -- what the list of a done run has
@@ -454,10 +550,11 @@ module _ {variables : ℕ} {order : Term → Term → Ordering} {high : ℕ → 
   run_done generators added limit steps zero (pair ∷ others) state s list taken e = cc
   run_done generators added limit steps (suc budget) (pair ∷ others) state s list taken e =
       elim (take_pair order limit steps pair (without_pair others state)) as (λ x. take_pair order limit steps pair (without_pair others state) ≡ x
-      → after_step (λ next. run_pairs order limit steps budget next.pairs next) x ≡ Some (Done list taken) → IsDone generators added list) [
+      → after_step (λ next. run_pairs order limit steps budget (pairs_left next) next) x ≡ Some (Done list taken) → IsDone generators added list) [
         | None ↦ λ d k. cc
         | Some Over ↦ λ d k. cc
-        | Some (Next next) ↦ λ d k. run_done generators added limit steps budget next.pairs next (taken_state generators added state pair others s limit steps next d) list taken k
+        | Some (Next next) ↦ λ d k. run_done generators added limit steps budget (pairs_left next) next
+            (undropped_state generators added next.elements next.pairs (taken_state generators added state pair others s limit steps next d)) list taken k
       ] refl e
 
   -- ---- the opening
@@ -531,8 +628,9 @@ module _ {variables : ℕ} {order : Term → Term → Ordering} {high : ℕ → 
       → (list : List ModuleVector) (taken : ℕ) → run_from order limit steps budget start ≡ Some (Done list taken) → IsDone generators generators list
   run_from_done generators limit steps budget None opens good list taken e = cc
   run_from_done generators limit steps budget (Some state) opens good list taken e =
-      run_done generators generators limit steps budget state.pairs state
-      (opening_state generators limit generators [] (recursion_from_All (IsGenerator generators) generators good) (record { elements = []; pairs = []; taken = 0 }) (empty_state generators) state opens)
+      run_done generators generators limit steps budget (pairs_left state) state
+      (undropped_state generators generators state.elements state.pairs
+      (opening_state generators limit generators [] (recursion_from_All (IsGenerator generators) generators good) (record { elements = []; pairs = []; taken = 0 }) (empty_state generators) state opens))
       list taken e
 
   pair_reduces : (list : List ModuleVector) → ((i j : ℕ) → i < j → j < length list → (lead (get_or list i [])).0 ≡ (lead (get_or list j [])).0
@@ -542,17 +640,11 @@ module _ {variables : ℕ} {order : Term → Term → Ordering} {high : ℕ → 
   pair_reduces list settled i j first second component =
       let g = get_or list i [] in
       let h = get_or list j [] in
-      let R = λ (a b : ModuleVector). HasStandardRepresentation order variables list a b in
       ⊎_elim (λ (below : i < j). settled i j below second component)
       (λ (le : j ≤ i).
       ⊎_elim
       (λ (below : j < i).
-      let other = settled j i below first (sym component) in
-      let exponents = padded_sum_comm max max_comm (lead g).1 (lead h).1 in
-      let same : lcm_term (lead h) (lead g) ≡ lcm_term (lead g) (lead h) = (λ k. (sym component k, sym exponents k)) in
-      let lcm = lcm_term (lead g) (lead h) in
-      IsEqualBelow-sym order same_term terms_decide multiple_value multiple_lead (IsMultipleOf variables list) lcm (multiple_with_lead lcm h) (multiple_with_lead lcm g)
-      (subst (λ (l : Term). IsEqualBelow order same_term multiple_value multiple_lead (IsMultipleOf variables list) l (multiple_with_lead l h) (multiple_with_lead l g)) same other))
+      HasStandardRepresentation-sym order variables list g h component (settled j i below first (sym component)))
       (λ (le_other : i ≤ j).
       let is : i ≡ j = omega arith in
       let lcm = lcm_term (lead g) (lead g) in
@@ -652,13 +744,13 @@ module _ {variables : ℕ} {order : Term → Term → Ordering} {high : ℕ → 
       let taken = pair_taken generators added state pair others s limit in
       elim taken.1 as (λ x. take_pair order limit taken.0 pair (without_pair others state) ≡ Some x
       → (steps : ℕ) × (end : RunEnd) × (run_pairs order limit steps (suc budget) (pair ∷ others) state ≡ Some end)) [
-        | Over ↦ λ e. (taken.0, DegreeOver, ap (after_step (λ next. run_pairs order limit taken.0 budget next.pairs next)) e)
+        | Over ↦ λ e. (taken.0, DegreeOver, ap (after_step (λ next. run_pairs order limit taken.0 budget (pairs_left next) next)) e)
         | Next next ↦ λ e.
-            let rest = pairs_end generators added limit budget next.pairs next (taken_state generators added state pair others s limit taken.0 next e) in
+            let rest = pairs_end generators added limit budget (pairs_left next) next (undropped_state generators added next.elements next.pairs (taken_state generators added state pair others s limit taken.0 next e)) in
             let steps = taken.0 + rest.0 in
             let first = take_pair-more order limit taken.0 steps (omega arith) pair (without_pair others state) (Next next) e in
-            let second = run_pairs-more order limit rest.0 steps (omega arith) budget next.pairs next rest.1 rest.2 in
-            (steps, rest.1, ap (after_step (λ n. run_pairs order limit steps budget n.pairs n)) first ∙ second)
+            let second = run_pairs-more order limit rest.0 steps (omega arith) budget (pairs_left next) next rest.1 rest.2 in
+            (steps, rest.1, ap (after_step (λ n. run_pairs order limit steps budget (pairs_left n) n)) first ∙ second)
       ] taken.2
 
   -- The run of generators that are not zero ends.
@@ -677,6 +769,6 @@ module _ {variables : ℕ} {order : Term → Term → Ordering} {high : ℕ → 
             opening_state generators limit generators [] (recursion_from_All (λ g. Contains generators g × IsVector order variables g × (g ≢ [])) generators good)
             (record { elements = []; pairs = []; taken = 0 }) (empty_state generators) state e
             in
-            let rest = pairs_end generators generators limit budget state.pairs state start in
+            let rest = pairs_end generators generators limit budget (pairs_left state) state (undropped_state generators generators state.elements state.pairs start) in
             (rest.1, record { steps = rest.0; ends = ap (run_from order limit rest.0 budget) e ∙ rest.2 })
       ] refl

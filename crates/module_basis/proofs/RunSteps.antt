@@ -1,29 +1,44 @@
 -- The steps of a run, for a loop over its state.
-use Rattle.std.proofs.Common.{◌≡◌, ◌≢◌, ℕ, suc, ◌+◌, ◌-◌, ◌≤◌, Some, length, List, [], ◌∷◌, refl, ap, subst, ◌∙◌, arith}
+use Rattle.std.proofs.Common.{◌≡◌, ◌≢◌, ℕ, suc, ◌+◌, ◌-◌, ◌≤◌, Some, length, List, [], ◌∷◌, sym, refl, ap, subst, ◌∙◌, arith}
 use Rattle.std.specs.declared.cmp.Ordering.{Ordering}
 use Rattle.mono_order.specs.Term.{Term}
 use Rattle.module_vec.specs.ModuleVector.{ModuleVector}
 use Rattle.pair_queue.specs.declared.queue.Pair.{Pair}
-use Rattle.module_basis.specs.PlainRun.{RunState, RunEnd, Done, PairsSpent, DegreeOver, Next, Over, without_pair, TakesFirst, after_step, run_pairs, run_from, opening, RunsTo}
+use Rattle.module_basis.specs.PlainRun.{RunState, run_state, pairs_left, RunEnd, Done, PairsSpent, DegreeOver, Step, Next, Over, take_pair, without_pair, TakesPair, after_step, run_pairs, run_from, opening, RunsTo}
 use Rattle.module_basis.proofs.RunEnds.{take_pair-more, run_pairs-more}
 use Rattle.module_basis.proofs.RunCounts.{take_pair-counts, opening-counts}
+
+-- the first pair that is not dropped is taken, and the run goes on or stops so
+pub record TakesFirst (order : Term → Term → Ordering) (limit : ℕ) (state : RunState) (step : Step) : Type 0 where
+  pub steps : ℕ
+  pub pair : Pair
+  pub others : List Pair
+  pub left : pairs_left state ≡ pair ∷ others
+  pub takes : take_pair order limit steps pair (without_pair others state) ≡ Some step
+
+-- where it was taken off the list of pairs before
+pub TakesFirst-from_pair : (order : Term → Term → Ordering) (limit : ℕ) (state after : RunState) (pair : Pair) (step : Step) → pairs_left state ≡ pair ∷ after.pairs
+    → after.elements ≡ state.elements → after.taken ≡ state.taken → TakesPair order limit pair after step → TakesFirst order limit state step
+TakesFirst-from_pair order limit state after pair step left elements taken h =
+    let same : without_pair after.pairs after ≡ without_pair after.pairs state = (λ i. run_state (elements i) after.pairs (taken i + 1)) in
+    record { steps = h.steps; pair = pair; others = after.pairs; left = left; takes = ap (take_pair order limit h.steps pair) (sym same) ∙ h.takes }
 
 -- the run goes on from this state, with a budget of so many more pairs, and ends so
 pub record RunsFrom (order : Term → Term → Ordering) (limit : ℕ) (budget : ℕ) (state : RunState) (end : RunEnd) : Type 0 where
   pub steps : ℕ
-  pub ends : run_pairs order limit steps budget state.pairs state ≡ Some end
+  pub ends : run_pairs order limit steps budget (pairs_left state) state ≡ Some end
 
 module _ (order : Term → Term → Ordering) (limit : ℕ) where
   pub RunsTo-opened : (generators : List ModuleVector) (budget : ℕ) (state : RunState) → opening order limit generators ≡ Some state → (end : RunEnd)
       → RunsFrom order limit budget state end → RunsTo order limit generators budget end
   RunsTo-opened generators budget state e end h = record { steps = h.steps; ends = ap (run_from order limit h.steps budget) e ∙ h.ends }
 
-  -- no pair is left
-  pub RunsFrom-done : (budget : ℕ) (state : RunState) → state.pairs ≡ [] → RunsFrom order limit budget state (Done state.elements state.taken)
+  -- no pair is left, once the criterion has dropped what it drops
+  pub RunsFrom-done : (budget : ℕ) (state : RunState) → pairs_left state ≡ [] → RunsFrom order limit budget state (Done state.elements state.taken)
   RunsFrom-done budget state e = record { steps = 0; ends = ap (λ pairs. run_pairs order limit 0 budget pairs state) e }
 
   -- a pair is left, and the budget is spent
-  pub RunsFrom-spent : (state : RunState) (pair : Pair) (others : List Pair) → state.pairs ≡ pair ∷ others → RunsFrom order limit 0 state PairsSpent
+  pub RunsFrom-spent : (state : RunState) (pair : Pair) (others : List Pair) → pairs_left state ≡ pair ∷ others → RunsFrom order limit 0 state PairsSpent
   RunsFrom-spent state pair others e = record { steps = 0; ends = ap (λ pairs. run_pairs order limit 0 0 pairs state) e }
 
   -- a pair is taken, and the run ends or goes on
@@ -32,7 +47,7 @@ module _ (order : Term → Term → Ordering) (limit : ℕ) where
       record {
         steps = h.steps;
         ends = ap (λ pairs. run_pairs order limit h.steps (suc budget) pairs state) h.left
-            ∙ ap (after_step (λ next. run_pairs order limit h.steps budget next.pairs next)) h.takes;
+            ∙ ap (after_step (λ next. run_pairs order limit h.steps budget (pairs_left next) next)) h.takes;
       }
 
   pub RunsFrom-next : (budget : ℕ) (state next : RunState) → TakesFirst order limit state (Next next) → (end : RunEnd) → RunsFrom order limit budget next end
@@ -40,11 +55,11 @@ module _ (order : Term → Term → Ordering) (limit : ℕ) where
   RunsFrom-next budget state next h end rest =
       let steps = h.steps + rest.steps in
       let taken = take_pair-more order limit h.steps steps (omega arith) h.pair (without_pair h.others state) (Next next) h.takes in
-      let later = run_pairs-more order limit rest.steps steps (omega arith) budget next.pairs next end rest.ends in
+      let later = run_pairs-more order limit rest.steps steps (omega arith) budget (pairs_left next) next end rest.ends in
       record {
         steps = steps;
         ends = ap (λ pairs. run_pairs order limit steps (suc budget) pairs state) h.left
-            ∙ (ap (after_step (λ n. run_pairs order limit steps budget n.pairs n)) taken ∙ later);
+            ∙ (ap (after_step (λ n. run_pairs order limit steps budget (pairs_left n) n)) taken ∙ later);
       }
 
   pub TakesFirst-counts : (state next : RunState) → TakesFirst order limit state (Next next)
@@ -84,16 +99,16 @@ module _ (order : Term → Term → Ordering) (limit : ℕ) where
       let one_less : suc (budget - (state.taken + 1)) ≡ budget - state.taken = omega (arith, u.taken, apart) in
       u.ends DegreeOver (subst (λ b. RunsFrom order limit b state DegreeOver) one_less (RunsFrom-stopped (budget - (state.taken + 1)) state h))
 
-  pub IsUnderWay-spent : (generators : List ModuleVector) (budget : ℕ) (state : RunState) → IsUnderWay generators budget state → state.taken ≡ budget → state.pairs ≢ []
+  pub IsUnderWay-spent : (generators : List ModuleVector) (budget : ℕ) (state : RunState) → IsUnderWay generators budget state → state.taken ≡ budget → pairs_left state ≢ []
       → RunsTo order limit generators budget PairsSpent
   IsUnderWay-spent generators budget state u same left =
       let none : 0 ≡ budget - state.taken = omega (arith, same) in
-      u.ends PairsSpent (subst (λ b. RunsFrom order limit b state PairsSpent) none (spent_at state state.pairs refl left))
+      u.ends PairsSpent (subst (λ b. RunsFrom order limit b state PairsSpent) none (spent_at state (pairs_left state) refl left))
     where
-      spent_at : (state : RunState) (pairs : List Pair) → state.pairs ≡ pairs → pairs ≢ [] → RunsFrom order limit 0 state PairsSpent
+      spent_at : (state : RunState) (pairs : List Pair) → pairs_left state ≡ pairs → pairs ≢ [] → RunsFrom order limit 0 state PairsSpent
       spent_at state [] e h = absurd (h refl)
       spent_at state (pair ∷ others) e h = RunsFrom-spent state pair others e
 
-  pub IsUnderWay-done : (generators : List ModuleVector) (budget : ℕ) (state : RunState) → IsUnderWay generators budget state → state.pairs ≡ []
+  pub IsUnderWay-done : (generators : List ModuleVector) (budget : ℕ) (state : RunState) → IsUnderWay generators budget state → pairs_left state ≡ []
       → RunsTo order limit generators budget (Done state.elements state.taken)
   IsUnderWay-done generators budget state u none = u.ends (Done state.elements state.taken) (RunsFrom-done (budget - state.taken) state none)

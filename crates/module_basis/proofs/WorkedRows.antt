@@ -1,12 +1,12 @@
 -- The definitions, computed on a small run: z1 e_0 + e_1, e_0 + e_2 and (z1 + z2 + 1) e_0 - e_3, where component
 -- 0 dominates.
-use Rattle.std.proofs.Common.{◌≡◌, Some, [], ◌∷◌, refl}
+use Rattle.std.proofs.Common.{◌≡◌, false, Some, [], ◌∷◌, refl}
 use Rattle.mono_order.specs.declared.limits.TheConstants.{RUN_DEGREE}
 use Rattle.mono_order.specs.TermOrder.{zero_dominates}
 use Rattle.module_vec.specs.ModuleVector.{ModuleVector}
 use Rattle.module_vec.specs.Division.{Remainder, OverDegree, divide, s_vector}
 use Rattle.pair_queue.specs.Pairs.{insert_pairs}
-use Rattle.module_basis.specs.PlainRun.{pairs_with}
+use Rattle.module_basis.specs.PlainRun.{pairs_with, is_dropped, undropped}
 
 g1 : ModuleVector
 g1 = ((0, 1 ∷ 0 ∷ []), 1) ∷ ((1, 0 ∷ 0 ∷ []), 1) ∷ []
@@ -51,3 +51,15 @@ first_pairs : insert_pairs zero_dominates (pairs_with 3 (0, 1 ∷ 0 ∷ []) 1 (g
     ≡ record { first = 1; second = 2; lcm = (0, 1 ∷ 0 ∷ []) } ∷ record { first = 1; second = 3; lcm = (0, 1 ∷ 0 ∷ []) } ∷ record { first = 2; second = 3; lcm = (0, 1 ∷ 0 ∷ []) } ∷ []
 unfolding g1 g2
 first_pairs = refl
+
+-- it is dropped through the first element, and the pair of the fourth and fifth element, which has the next place, is not
+next_pairs : undropped (g1 ∷ g2 ∷ g3 ∷ g4 ∷ g5 ∷ [])
+    (record { first = 2; second = 3; lcm = (0, 1 ∷ 0 ∷ []) } ∷ record { first = 4; second = 5; lcm = (2, 1 ∷ 1 ∷ []) } ∷ [])
+    ≡ record { first = 4; second = 5; lcm = (2, 1 ∷ 1 ∷ []) } ∷ []
+unfolding g1 g2 g3 g4 g5
+next_pairs = refl
+
+-- while the pair of the first and third element is left, it is not
+kept_pair : is_dropped 1 (g1 ∷ g2 ∷ g3 ∷ []) (record { first = 1; second = 3; lcm = (0, 1 ∷ 0 ∷ []) } ∷ []) (record { first = 2; second = 3; lcm = (0, 1 ∷ 0 ∷ []) }) ≡ false
+unfolding g1 g2 g3
+kept_pair = refl

@@ -1,20 +1,23 @@
--- The plain run: Buchberger's algorithm with a budget of pairs and a limit on degrees.
+-- The plain run: Buchberger's algorithm with the chain criterion, a budget of pairs and a limit on degrees.
 --     RunState                     the elements, the pairs that are left, in their order, and how many were taken
 --     with_element                 an element is added, with its pairs; None where one of these is over the limit
 --     opening                      the monic multiples of the generators are added in turn
+--     is_dropped                   the chain criterion drops the pair, through some other element
+--     pairs_left                   the pairs of a state without those in front that the criterion drops
 --     take_pair                    the remainder of the pair's S-vector is added, where it is not zero
 --     RunEnd                       Done with the elements and the pairs taken, PairsSpent or DegreeOver
 --     IsProper                     the pair is one of two elements with leads in one component
 --     IsSoundState                 the elements are monic, and the pairs are proper
---     TakesFirst                   the first pair is taken, and what follows
+--     TakesPair                    a pair is taken, and what follows
 --     RunsTo                       the run of the generators with this budget ends so
--- Source: Buchberger's algorithm for submodules as in Using Algebraic Geometry of Cox, Little and O'Shea.
-use Rattle.std.specs.Prelude.{◌≡◌, ℕ, zero, suc, ◌+◌, ◌-◌, Bool, false, ◌||◌, if◌then◌else◌, nat_eq, nat_lt, sum, ◌<◌, Option, Some, None, length, get_or, List, [], ◌∷◌, ◌++◌}
+-- Source: Buchberger's algorithm for submodules as in Using Algebraic Geometry of Cox, Little and O'Shea, and the chain
+-- criterion of Buchberger, "A criterion for detecting unnecessary reductions in the construction of Gröbner bases" (1979).
+use Rattle.std.specs.Prelude.{◌≡◌, ℕ, zero, suc, ◌+◌, ◌-◌, Bool, false, not, ◌&&◌, ◌||◌, if◌then◌else◌, nat_eq, nat_lt, sum, ◌<◌, Option, Some, None, length, get_or, List, [], ◌∷◌, ◌++◌}
 use Rattle.std.specs.List.{All, Contains}
 use Rattle.std.specs.declared.cmp.Ordering.{Ordering}
-use Rattle.mono_order.specs.Term.{Term, lcm_term}
+use Rattle.mono_order.specs.Term.{Term, lcm_term, divides}
 use Rattle.pair_queue.specs.declared.queue.Pair.{Pair}
-use Rattle.pair_queue.specs.Pairs.{insert_pair, insert_pairs}
+use Rattle.pair_queue.specs.Pairs.{insert_pair, insert_pairs, has_pair}
 use Rattle.module_vec.specs.ModuleVector.{ModuleVector, lead, multiple_value, IsMonicVector}
 use Rattle.module_vec.specs.Division.{Division, Remainder, OverDegree, divide, is_over_degree, monic_of, multiple_with_lead, s_vector}
 
@@ -77,6 +80,31 @@ pub record IsSoundState (order : Term → Term → Ordering) (variables : ℕ) (
   pub monic : All (IsMonicVector order variables) state.elements
   pub proper : (q : Pair) → Contains state.pairs q → IsProper state.elements q
 
+-- ---- the chain criterion
+
+-- the pair of the elements with two numbers, of which the lesser one comes first, is left
+abbrev pub is_left : List Pair → ℕ → ℕ → Bool
+is_left pairs a b = if nat_lt a b then has_pair pairs a b else has_pair pairs b a
+
+-- another element, with this number and lead: the lead divides the pair's least common multiple, and the element's
+-- pairs with the two are gone
+abbrev pub is_dropped_through : List Pair → Pair → ℕ → Term → Bool
+is_dropped_through pairs pair number top =
+    not (nat_eq number pair.first) && not (nat_eq number pair.second) && divides top pair.lcm && not (is_left pairs pair.first number) && not (is_left pairs pair.second number)
+
+-- some element of the list, whose elements are numbered from here on, drops the pair
+abbrev pub is_dropped : ℕ → List ModuleVector → List Pair → Pair → Bool
+is_dropped number [] pairs pair = false
+is_dropped number (g ∷ elements) pairs pair = is_dropped_through pairs pair number (lead g) || is_dropped (suc number) elements pairs pair
+
+-- the pairs without those in front that the criterion drops
+abbrev pub undropped : List ModuleVector → List Pair → List Pair
+undropped elements [] = []
+undropped elements (pair ∷ others) = if is_dropped 1 elements others pair then undropped elements others else (pair ∷ others)
+
+abbrev pub pairs_left : RunState → List Pair
+pairs_left state = undropped state.elements state.pairs
+
 -- ---- pairs
 
 pub data RunEnd : Type 0 where
@@ -120,29 +148,26 @@ take_pair order limit steps pair state =
 abbrev pub without_pair : List Pair → RunState → RunState
 without_pair others state = record { elements = state.elements; pairs = others; taken = state.taken + 1 }
 
--- the first pair is taken, and the run goes on or stops so
-pub record TakesFirst (order : Term → Term → Ordering) (limit : ℕ) (state : RunState) (step : Step) : Type 0 where
+-- the pair, which is off the list of pairs, is taken, and the run goes on or stops so
+pub record TakesPair (order : Term → Term → Ordering) (limit : ℕ) (pair : Pair) (state : RunState) (step : Step) : Type 0 where
   pub steps : ℕ
-  pub pair : Pair
-  pub others : List Pair
-  pub left : state.pairs ≡ pair ∷ others
-  pub takes : take_pair order limit steps pair (without_pair others state) ≡ Some step
+  pub takes : take_pair order limit steps pair (without_pair state.pairs state) ≡ Some step
 
 abbrev pub after_step : (RunState → Option RunEnd) → Option Step → Option RunEnd
 after_step continue None = None
 after_step continue (Some Over) = Some DegreeOver
 after_step continue (Some (Next state)) = continue state
 
--- with this budget, from these pairs on; None where a division needs more than the steps
+-- with this budget, from these pairs on, the first of which is not dropped; None where a division needs more than the steps
 abbrev pub run_pairs : (Term → Term → Ordering) → ℕ → ℕ → ℕ → List Pair → RunState → Option RunEnd
 run_pairs order limit steps budget [] state = Some (Done state.elements state.taken)
 run_pairs order limit steps zero (pair ∷ others) state = Some PairsSpent
 run_pairs order limit steps (suc budget) (pair ∷ others) state =
-    after_step (λ next. run_pairs order limit steps budget next.pairs next) (take_pair order limit steps pair (without_pair others state))
+    after_step (λ next. run_pairs order limit steps budget (pairs_left next) next) (take_pair order limit steps pair (without_pair others state))
 
 abbrev pub run_from : (Term → Term → Ordering) → ℕ → ℕ → ℕ → Option RunState → Option RunEnd
 run_from order limit steps budget None = Some DegreeOver
-run_from order limit steps budget (Some state) = run_pairs order limit steps budget state.pairs state
+run_from order limit steps budget (Some state) = run_pairs order limit steps budget (pairs_left state) state
 
 abbrev pub plain_run : (Term → Term → Ordering) → ℕ → ℕ → List ModuleVector → ℕ → Option RunEnd
 plain_run order limit steps generators budget = run_from order limit steps budget (opening order limit generators)

@@ -1,10 +1,10 @@
-ghost use Rattle.std.specs.Prelude.{◌≡◌, ◌+◌, ◌^◌, ◌<◌, ◌↔◌, true, false, sum, length, IsNone, IfSome, IfOk, OnOk};
+ghost use Rattle.std.specs.Prelude.{◌≡◌, ◌+◌, ◌^◌, ◌<◌, ◌↔◌, true, false, sum, length, [], ◌∷◌, IsNone, IfNone, IfSome, IfOk, OnOk};
 ghost use Rattle.std.specs.List.{All};
 ghost use Rattle.mono_order.specs.declared.limits.TheConstants.{RUN_DEGREE};
 ghost use Rattle.mono_order.specs.Term.{lcm_term};
 ghost use Rattle.module_vec.specs.ModuleVector.{IsMonic};
 ghost use Rattle.pair_queue.specs.Pairs.{insert_pairs};
-ghost use Rattle.module_basis.specs.PlainRun.{AreNewPairs, pairs_with, has_pair_over};
+ghost use Rattle.module_basis.specs.PlainRun.{AreNewPairs, pairs_with, has_pair_over, undropped, is_dropped as is_dropped_of, is_dropped_through as is_dropped_through_of, is_left as is_left_of};
 
 use crate::fault::BasisFault;
 use ibp_base::NoMemory;
@@ -71,4 +71,65 @@ pub(crate) fn push_all<O: TermOrder>(
         queue.push(*pair)?;
     }
     Ok(())
+}
+
+// Takes the pairs out of the queue that the chain criterion drops, and the first one that it does not drop.
+pub(crate) fn next_undropped<O: TermOrder>(
+    elements: &[Vector<O>],
+    pairs: &mut PairQueue<O>,
+) -> Option<Pair>
+    requires monic { All IsMonic elements.now }
+    requires few { length elements.now < 2 ^ 32 }
+    ensures none { IsNone result ↔ (undropped elements.now pairs.old ≡ []) }
+    ensures first { IfSome result (λ pair. undropped elements.now pairs.old ≡ pair ∷ pairs.new) }
+    ensures empty { IfNone result (pairs.new ≡ []) }
+{
+    'pairs: while let Some(pair) = pairs.pop() {
+        if !is_dropped(elements, pairs, &pair) {
+            return Some(pair);
+        }
+    }
+    None
+}
+
+// Whether some element drops a pair that is out of the queue.
+fn is_dropped<O: TermOrder>(elements: &[Vector<O>], pairs: &PairQueue<O>, pair: &Pair) -> bool
+    requires monic { All IsMonic elements.now }
+    requires few { length elements.now < 2 ^ 32 }
+    ensures { result ≡ is_dropped_of 1 elements.now pairs.now pair.now }
+{
+    for (place, element) in elements.iter().enumerate() {
+        if is_dropped_through(pairs, pair, place as u32 + 1, &element.lead_term()) {
+            return true;
+        }
+    }
+    false
+}
+
+// Whether the element with this number and lead drops the pair: its lead divides the pair's least common multiple, and
+// its pairs with the two elements are gone.
+fn is_dropped_through<O: TermOrder>(
+    pairs: &PairQueue<O>,
+    pair: &Pair,
+    number: u32,
+    lead: &Term,
+) -> bool
+    ensures { result ≡ is_dropped_through_of pairs.now pair.now number lead.now }
+{
+    number != pair.first
+        && number != pair.second
+        && lead.divides(&pair.lcm)
+        && !is_left(pairs, pair.first, number)
+        && !is_left(pairs, pair.second, number)
+}
+
+// Whether the pair of two elements is in the queue.
+fn is_left<O: TermOrder>(pairs: &PairQueue<O>, left: u32, right: u32) -> bool
+    ensures { result ≡ is_left_of pairs.now left right }
+{
+    if left < right {
+        pairs.contains(left, right)
+    } else {
+        pairs.contains(right, left)
+    }
 }

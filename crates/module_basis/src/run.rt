@@ -1,14 +1,14 @@
-ghost use Rattle.std.specs.Prelude.{◌≡◌, ◌≢◌, ◌+◌, ◌-◌, ◌^◌, ◌<◌, ◌↔◌, ◌⊎◌, true, false, length, map, get_or, [], Some, None, IsTrue, IfOk, OnOk};
+ghost use Rattle.std.specs.Prelude.{◌≡◌, ◌≢◌, ◌+◌, ◌-◌, ◌^◌, ◌<◌, ◌↔◌, ◌⊎◌, true, false, length, map, get_or, [], ◌∷◌, Some, None, IsNone, IfSome, IfOk, OnOk};
 ghost use Rattle.std.specs.List.{All};
 ghost use Rattle.mono_order.specs.declared.limits.TheConstants.{VARIABLES, RUN_DEGREE};
 ghost use Rattle.module_vec.specs.ModuleVector.{IsMonic, IsMonicVector, IsVector, IsMember, lead};
 ghost use Rattle.module_vec.specs.Division.{DividesTo, Remainder, OverDegree, monic_of, s_vector as s_vector_of};
 ghost use Rattle.module_basis.specs.GroebnerBasis.{IsGroebnerBasis};
-ghost use Rattle.module_basis.specs.PlainRun.{IsProper, IsSoundState, RunsTo, Done, PairsSpent, DegreeOver, TakesFirst, Next, Over, is_pair_over, opening, with_element};
+ghost use Rattle.module_basis.specs.PlainRun.{IsProper, IsSoundState, RunsTo, Done, PairsSpent, DegreeOver, TakesPair, Next, Over, is_pair_over, opening, pairs_left, with_element};
 
 use crate::basis::Basis;
 use crate::fault::BasisFault;
-use crate::pairs::{formed_pairs, push_all};
+use crate::pairs::{formed_pairs, next_undropped, push_all};
 use fast_division::{LeadIndex, normal_form_fast};
 use ibp_base::NoMemory;
 use module_division::s_vector;
@@ -21,7 +21,8 @@ use std::marker::Model;
 /// Buchberger's algorithm with a budget of pairs, after Buchberger, "Ein Algorithmus zum Auffinden der Basiselemente
 /// des Restklassenringes nach einem nulldimensionalen Polynomideal" (1965), for submodules of free modules: the
 /// pair with the least common multiple that is least is taken first, and the remainder of its S-vector is added to
-/// the list, until no pair is left.
+/// the list, until no pair is left. A pair that the chain criterion drops is not taken; this is that of Buchberger, "A
+/// criterion for detecting unnecessary reductions in the construction of Gröbner bases" (1979).
 pub fn plain_run<O: TermOrder>(
     alloc: Global,
     generators: &[Vector<O>],
@@ -35,11 +36,11 @@ pub fn plain_run<O: TermOrder>(
     ensures basis { IfOk result (λ basis. IsGroebnerBasis O.order (IsMember VARIABLES generators.now) basis.elements) }
 {
     let mut run = Run::opened(alloc, generators)?;
-    'pairs: while !run.is_done() {
+    'pairs: while let Some(pair) = run.next_pair() {
         if run.taken() == pairs {
             return Err(BasisFault::PairsSpent);
         }
-        run = run.stepped(alloc)?;
+        run = run.stepped(alloc, &pair)?;
     }
     Ok(run.finished())
 }
@@ -121,25 +122,35 @@ impl<O: TermOrder> Run<O> {
         })
     }
 
-    // The first pair is taken.
-    fn stepped(self, alloc: Global) -> Result<Run<O>, BasisFault>
-        requires left { self.pairs ≢ [] }
+    // The first pair that the chain criterion does not drop. It is out of the queue then, and so are those that the
+    // criterion dropped.
+    fn next_pair(&mut self) -> Option<Pair>
+        requires few { length self.old.elements < 2 ^ 32 }
+        ensures none { IsNone result ↔ (pairs_left self.old ≡ []) }
+        ensures first { IfSome result (λ pair. pairs_left self.old ≡ pair ∷ self.new.pairs) }
+        ensures proper { IfSome result (λ pair. IsProper self.new.elements pair) }
+        ensures elements { self.new.elements ≡ self.old.elements }
+        ensures taken { self.new.taken ≡ self.old.taken }
+    {
+        next_undropped(&self.elements, &mut self.pairs)
+    }
+
+    // A pair, which is out of the queue, is taken.
+    fn stepped(self, alloc: Global, pair: &Pair) -> Result<Run<O>, BasisFault>
+        requires proper { IsProper self.elements pair.now }
         requires few { length self.elements + 1 < 2 ^ 32 }
         requires counted { self.taken + 1 < 2 ^ 64 }
-        ensures next { IfOk result (λ run. TakesFirst O.order RUN_DEGREE self (Next run)) }
-        ensures over { result ≡ Err BasisFault.DegreeOver → TakesFirst O.order RUN_DEGREE self Over }
+        ensures next { IfOk result (λ run. TakesPair O.order RUN_DEGREE pair.now self (Next run)) }
+        ensures over { result ≡ Err BasisFault.DegreeOver → TakesPair O.order RUN_DEGREE pair.now self Over }
         ensures not_spent { (result ≡ Err BasisFault.PairsSpent) → ⊥ }
     {
         let Run {
             elements,
             index,
-            mut pairs,
+            pairs,
             taken,
         } = self;
-        let Some(pair) = pairs.pop() else {
-            unreachable!()
-        };
-        let rest = remainder_of_pair(alloc, &elements, &index, &pair)?;
+        let rest = remainder_of_pair(alloc, &elements, &index, pair)?;
         let run = Run {
             elements,
             index,
@@ -150,13 +161,6 @@ impl<O: TermOrder> Run<O> {
             return Ok(run);
         }
         run.added(alloc, made_monic(alloc, &rest)?)
-    }
-
-    // Whether no pair is left.
-    fn is_done(&self) -> bool
-        ensures { IsTrue result ↔ (self.now.pairs ≡ []) }
-    {
-        self.pairs.len() == 0
     }
 
     fn taken(&self) -> u64

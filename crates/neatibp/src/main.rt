@@ -1,11 +1,14 @@
 //! Integration-by-parts relations of families of Feynman integrals, written by their Baikov polynomials.
 #![tactic(auto)]
 
-use commands::{Status, run_calm, status_text};
-use ibp_outside::{StdSink, StdSource};
+use commands::{Status, status_text};
+use ibp_outside::{OpenGate, StdSink, StdSource};
 use std::process::ExitCode;
 use std::rt::Env;
+use std::sync::Wait;
+use std::thread::Threads;
 use std::{env, io};
+use top_call::run_tool;
 
 // The words behind the program's name. A word that is no text belongs to no command.
 fn words_of<R: Env + AllocGlobal>(rt: &R) -> Result<Vec<String>, Status> {
@@ -19,11 +22,11 @@ fn words_of<R: Env + AllocGlobal>(rt: &R) -> Result<Vec<String>, Status> {
     }
 }
 
-fn run_over<R: Env + Input + Print + AllocGlobal>(rt: &R) -> Status {
+fn run_over<R: Env + Input + Print + AllocGlobal + Threads + Wait + Sync>(rt: &R) -> Status {
     let mut source = StdSource::new(rt.reader());
     let mut sink = StdSink::new(io::writer(rt));
     match words_of(rt) {
-        Ok(words) => run_calm(rt.alloc(), &words, &mut source, &mut sink),
+        Ok(words) => run_tool(rt, rt.alloc(), &words, &mut source, &mut sink, &OpenGate),
         Err(status) => status,
     }
 }

@@ -1,7 +1,7 @@
 ghost use Rattle.std.specs.Prelude.{◌≡◌, ◌↔◌, [], ◌∷◌, length, IsNone, IfNone, IfSome, OnOk, OnErr};
 ghost use Rattle.std.specs.List.{Contains};
 ghost use Rattle.std.specs.List.Sorted.{IsStrictlySortedBy};
-ghost use Rattle.pair_queue.specs.Pairs.{compare_pairs, insert_pair};
+ghost use Rattle.pair_queue.specs.Pairs.{compare_pairs, insert_pair, has_pair};
 
 use ibp_base::NoMemory;
 use mono_order::{Term, TermOrder};
@@ -157,5 +157,12 @@ impl<O: TermOrder> PairQueue<O> {
         let queued = self.pairs.pop_first()?;
         let Queued { pair, .. } = queued;
         Some(pair)
+    }
+
+    /// Whether a pair with these numbers is in the queue.
+    pub fn contains(&self, first: u32, second: u32) -> bool
+        ensures { result ≡ has_pair self.now first second }
+    {
+        self.pairs.iter().any(|queued| queued.pair.first == first && queued.pair.second == second)
     }
 }

@@ -19,7 +19,7 @@ use Rattle.row_echelon.specs.declared.inserted.Inserted.TheVariants.{Kept, Depen
 use Rattle.row_echelon.specs.Echelons.{KeptRows, row_numbered, IsNumber, InKeptSpan, IsBelow, Inserts, number_cmp}
 use Rattle.row_echelon.proofs.Keeping.{number_cases, new_number, row_numbered-push_new, row_numbered-push_old, InKeptSpan-push}
 use Rattle.row_echelon.specs.RowSpans.{WholeSpan}
-use Rattle.relation_pick.specs.Picking.{IsInBasis, IsAnswer}
+use Rattle.relation_pick.specs.Picking.{IsInBasis, IsAnswer, IsForm}
 use Rattle.relation_pick.specs.Kept.{KeepsBasis}
 
 pub KeepsBasis-start : (candidates : List IntegralSum) → KeepsBasis candidates 0 []
@@ -99,6 +99,12 @@ module _ (candidates : List IntegralSum) (kept : KeptRows) (h : KeepsBasis candi
   kept_from_whole : (f : IntegralSum) → WholeSpan integral_cmp candidates f → InKeptSpan kept f
   kept_from_whole f member =
       InSpan-trans integral_cmp integral_cmp_total same_integrals (row_numbered kept) (IsNumber kept) (row_at candidates) (λ k. k < length candidates) h.spans member
+
+  pub IsForm-from_reduce : (target form : IntegralSum) → IsReducedForm integral_cmp (InKeptSpan kept) target form → IsCanonical integral_cmp form → IsForm integral_cmp candidates target form
+  IsForm-from_reduce target form reduced canonical = record {
+    reduced = IsReducedForm-along integral_cmp (InKeptSpan kept) (WholeSpan integral_cmp candidates) whole_from_kept kept_from_whole target form reduced;
+    canonical = canonical;
+  }
 
   -- what the echelon answers is the answer for the target
   pub IsAnswer-from_reduce : (target form : IntegralSum) (weights : FormalSum ℕ) → IsReducedForm integral_cmp (InKeptSpan kept) target form → IsCanonical integral_cmp form

@@ -1,5 +1,5 @@
 -- Each list of candidates has a pick for each list of targets.
-use Rattle.std.proofs.Common.{◌≡◌, ◌⊎◌, inl, inr, ⊎_elim, ℕ, zero, suc, ◌+◌, ◌<◌, ◌≤◌, List, [], ◌∷◌, ◌++◌, length, take, refl, sym, ap, subst, ◌∙◌, arith, append-nil}
+use Rattle.std.proofs.Common.{◌≡◌, ◌⊎◌, inl, inr, ⊎_elim, ℕ, zero, suc, ◌<◌, ◌≤◌, List, [], ◌∷◌, ◌++◌, length, take, refl, sym, subst, ◌∙◌, arith, append-nil}
 use Rattle.std.specs.Prelude.{Contains}
 use Rattle.std.specs.List.Sorted.{IsStrictlyIncreasing}
 use Rattle.std.specs.Ordering.{eq_by_cmp}
@@ -9,20 +9,20 @@ use Rattle.std.specs.FinMap.{IsAntisymmetric}
 use Rattle.std.proofs.lemmas.Bool.{cases_lt}
 use Rattle.std.proofs.lemmas.List.{get_or-take, length-take-le}
 use Rattle.std.proofs.lemmas.List.Elements.{Contains-append_left, Contains-push, Contains-push_cases}
-use Rattle.ibp_algebra.specs.FormalSum.{FormalSum, AllKeys, IsCanonical, normal_form}
+use Rattle.ibp_algebra.specs.FormalSum.{FormalSum, normal_form}
 use Rattle.ibp_algebra.specs.Combination.{combination}
-use Rattle.ibp_algebra.specs.Spans.{row_at, difference, SameSum, coefficient_by, InSpan, IsLead, IsReducedForm}
+use Rattle.ibp_algebra.specs.Spans.{row_at, difference, SameSum, InSpan, IsLead, IsReducedForm}
 use Rattle.ibp_algebra.proofs.Combinations.{AllKeys-weaker}
 use Rattle.ibp_algebra.proofs.CombinationLaws.{combination-weights}
 use Rattle.ibp_algebra.proofs.Existence.{reduced_form_exists}
 use Rattle.ibp_algebra.proofs.Leads.{zero_or_lead}
-use Rattle.ibp_algebra.proofs.Members.{order_decides, InSpan-row, InSpan-same, InSpan-trans}
+use Rattle.ibp_algebra.proofs.Members.{order_decides, InSpan-row, InSpan-trans}
 use Rattle.ibp_algebra.proofs.NormalForm.{IsCanonical-normal_form, AllKeys-normal_form, SameCoefficients-normal_form}
 use Rattle.ibp_algebra.proofs.ReducedForms.{difference-from_sum, sum-from_difference, IsReducedForm-unique}
 use Rattle.ibp_algebra.proofs.SumLaws.{SameCoefficients-refl, SameCoefficients-sym, SameCoefficients-trans, SameCoefficients-append}
 use Rattle.row_echelon.specs.Echelons.{number_cmp}
-use Rattle.row_echelon.specs.RowSpans.{SpanOf, WholeSpan}
-use Rattle.relation_pick.specs.Picking.{IsInBasis, IsExpression, IsAnswer, AllAnswers, IsPick}
+use Rattle.row_echelon.specs.RowSpans.{WholeSpan}
+use Rattle.relation_pick.specs.Picking.{IsInBasis, IsAnswer, AllAnswers, IsPick}
 use Rattle.relation_pick.specs.Marks.{IsNamed, AnyNamed, ListsNamed}
 use Rattle.relation_pick.proofs.Answering.{number_total, number_unique}
 use Rattle.relation_pick.proofs.Basis.{basis_spans}

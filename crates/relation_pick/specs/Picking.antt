@@ -3,6 +3,7 @@
 --     IsExpression ..                       the target is its form plus a combination of basis candidates
 --     IsNeededFor order candidates t k      k has a weight that is not zero in the expression of t over the basis
 --     IsWritten order candidates targets k  k is needed for some target
+--     AllForms ..                           the reduced form of each target in turn
 --     IsPick ..                             which candidates are written, and the answer for each target
 --     rows_at candidates places             the rows of the candidates at these places
 --     DependsOn order rows target j         without row j the reduced form of the target by these rows changes
@@ -50,6 +51,16 @@ AllAnswers order candidates [] [] [] = Unit {0}
 AllAnswers order candidates (target ∷ targets) (form ∷ forms) (weights ∷ others) =
     IsAnswer order candidates target form weights × AllAnswers order candidates targets forms others
 AllAnswers order candidates targets forms weights = ⊥
+
+-- the form for one target
+pub record IsForm {K : Type 0} (order : K → K → Ordering) (candidates : List (FormalSum K)) (target form : FormalSum K) : Type 0 where
+  pub reduced : IsReducedForm order (WholeSpan order candidates) target form
+  pub canonical : IsCanonical order form
+
+abbrev pub AllForms : {K : Type 0} → (K → K → Ordering) → List (FormalSum K) → List (FormalSum K) → List (FormalSum K) → Type 0
+AllForms order candidates [] [] = Unit {0}
+AllForms order candidates (target ∷ targets) (form ∷ forms) = IsForm order candidates target form × AllForms order candidates targets forms
+AllForms order candidates targets forms = ⊥
 
 -- the written places, the reduced forms and the weights of a list of targets
 pub record IsPick {K : Type 0} (order : K → K → Ordering) (candidates targets : List (FormalSum K)) (written : List ℕ) (forms : List (FormalSum K)) (weights : List (FormalSum ℕ)) : Type 0 where

@@ -16,14 +16,18 @@ use std::sync::{Condvar, Mutex};
 /// A relay that workers share. Each takes the lock and makes one call of what it guards.
 #[derive(Drop)]
 pub struct Desk<W: Piece, L: Ledger, C: Ledger> {
+    /// The relay, with the books of the ledgers.
     pub locked: Mutex<Locked<W, L, C>>,
+    /// Where workers wait until the relay has changed.
     pub changed: Condvar,
 }
 
 /// A desk with its seats, which are numbered from 1.
 #[derive(Drop)]
 pub struct Opened<W: Piece, L: Ledger, C: Ledger> {
+    /// The desk.
     pub desk: Desk<W, L, C>,
+    /// Its seats, in the order of their numbers.
     pub seats: Vec<Seat<L, C>>,
 }
 

@@ -102,7 +102,7 @@ module _ (rest rest' reduced : IntegralSum) (value inverse factor negative : ℕ
       ∙ ap (λ n. weighted_sum (unit_weight (eq_by_cmp integral_cmp) key) rest + n) (weighted_sum-scale (unit_weight (eq_by_cmp integral_cmp) key) negative reduced))
 
   -- above the lead nothing changes
-  unchanged_above : IsLead integral_cmp reduced lead → (key : List ℤ) → integral_cmp key lead ≡ Greater → coefficient_by integral_cmp rest' key ≡ coefficient_by integral_cmp rest key
+  pub unchanged_above : IsLead integral_cmp reduced lead → (key : List ℤ) → integral_cmp key lead ≡ Greater → coefficient_by integral_cmp rest' key ≡ coefficient_by integral_cmp rest key
   unchanged_above h key above =
       let none : IsCongruent (negative * weighted_sum (unit_weight (eq_by_cmp integral_cmp) key) reduced) (negative * 0) =
       IsCongruent-mul (IsCongruent-refl negative) (record { same_residue = h.highest key above })
@@ -110,7 +110,7 @@ module _ (rest rest' reduced : IntegralSum) (value inverse factor negative : ℕ
       omega (arith, after_sum key, none.same_residue)
 
   -- and at the lead nothing is left
-  gone_at_lead : (inverse * coefficient_by integral_cmp reduced lead) % 2147483647 ≡ 1 → coefficient_by integral_cmp rest lead ≡ value → coefficient_by integral_cmp rest' lead ≡ 0
+  pub gone_at_lead : (inverse * coefficient_by integral_cmp reduced lead) % 2147483647 ≡ 1 → coefficient_by integral_cmp rest lead ≡ value → coefficient_by integral_cmp rest' lead ≡ 0
   gone_at_lead one value_is =
       let top = weighted_sum (unit_weight (eq_by_cmp integral_cmp) lead) reduced in
       let inverse_top : IsCongruent (inverse * top) 1 =

@@ -4,12 +4,10 @@ use Rattle.std.specs.Prelude.{ℤ, All, slice_get, IsSome, IsNone, IfSome}
 use Rattle.std.specs.Map.{lookup}
 use Rattle.std.specs.Ordering.{eq_by_cmp, nat_cmp}
 use Rattle.std.specs.Cmp.{nat_cmp_total}
-use Rattle.std.specs.Bool.{Decides}
 use Rattle.std.proofs.lemmas.List.Elements.{All-push}
 use Rattle.std.specs.FinMap.{nat_cmp-IsAntisymmetric}
 use Rattle.std.specs.declared.cmp.Ordering.TheVariants.{Greater}
 use Rattle.std.proofs.lemmas.Bool.Decides.{Decides-eqb}
-use Rattle.std.proofs.lemmas.Cmp.{ranked, by_ranked}
 use Rattle.ibp_base.proofs.Members.{in_cases, in_tail}
 use Rattle.sector_lattice.specs.Sectors.{integral_cmp}
 use Rattle.sector_lattice.specs.Orders.{integral_cmp_total, same_integrals, integrals_decide}
@@ -24,7 +22,7 @@ use Rattle.ibp_algebra.specs.Spans.{row_at, SameSum, InSpan, IsLead, coefficient
 use Rattle.sparse_rows.specs.Rows.{IntegralSum, SameRow}
 use Rattle.ibp_algebra.proofs.CombinationLaws.{combination-weights, combination-rows}
 use Rattle.ibp_algebra.proofs.Numbers.{greater_is, nat_decides}
-use Rattle.ibp_algebra.proofs.Members.{order_decides, InSpan-same, InSpan-scale, InSpan-IsSubspace}
+use Rattle.ibp_algebra.proofs.Members.{InSpan-same, InSpan-scale, InSpan-IsSubspace}
 use Rattle.ibp_algebra.proofs.Combinations.{AllKeys-weaker}
 use Rattle.ibp_algebra.proofs.Independence.{solved_row}
 use Rattle.ibp_algebra.proofs.Leads.{IsLead-canonical}
@@ -350,6 +348,17 @@ Joins-left es row t kept inverse h below bound canonical left inverts is =
       new = new;
       kept_is = originals-joined es (t.0, kept) row canonical left.sum;
     }
+
+-- what is kept of a row that is inserted
+pub Joins-inserted : (es : Entries) (row : IntegralSum) (number : ℕ) (t : List ℤ × ℕ) (rest : IntegralSum) (steps : FormalSum ℕ) (kept : Kept) (inverse : Option ℕ) → IsEchelon es → IsBelow (originals [] es) number
+    → kept.number ≡ number → number < 2 ^ 32 → IsCanonical integral_cmp row → SameRow row (rest ++ combination (row_at (reduced_rows es)) steps) → AllKeys (λ i. i < length es) steps
+    → IsCanonical integral_cmp rest → IfSome (slice_get rest 0) (λ term. NoPivot es term.0) → Some t ≡ slice_get rest 0 → kept.reduced ≡ rest → kept.steps.items ≡ steps
+    → IfSome inverse (λ r. mul_mod t.1 r ≡ 1) → inverse ≡ Some kept.inverse → Joins es row (t.0, kept)
+Joins-inserted es row number t rest steps kept inverse h below number_is bound row_canonical sum places canonical lead first reduced steps_are inverts is =
+    Joins-left es row t kept inverse h (subst (IsBelow (originals [] es)) (sym number_is) below) (subst (λ n. n < 2 ^ 32) (sym number_is) bound) row_canonical
+    (IsLeft-copy es row t rest kept.reduced steps kept.steps.items reduced steps_are
+    (record { sum = sum; places = places; canonical = canonical; first = IsFirstTerm-at rest t canonical first; apart = no_pivot_lead es rest t first lead }))
+    inverts is
 
 -- ---- the numbers of kept rows and one more
 

@@ -2,10 +2,7 @@
 use Rattle.std.proofs.Common.{◌≡◌, ℕ, zero, suc, ◌+◌, ◌*◌, ◌<◌, Option, Some, None, List, [], ◌∷◌, ◌++◌, length, map, get_or, take, reverse, append_assoc, append-nil, sym, refl, ap, subst, ◌∙◌, arith}
 use Rattle.std.specs.Prelude.{ℤ, All, slice_get, slice_set}
 use Rattle.std.specs.Ordering.{eq_by_cmp, nat_cmp}
-use Rattle.std.specs.Cmp.{nat_cmp_total}
-use Rattle.std.specs.FinMap.{nat_cmp-IsAntisymmetric}
 use Rattle.std.specs.declared.cmp.Ordering.TheVariants.{Greater}
-use Rattle.std.specs.Bool.{Decides}
 use Rattle.std.proofs.lemmas.List.{take_more, get_or-take, reverse-append}
 use Rattle.ibp_base.proofs.Members.{in_tail}
 use Rattle.sector_lattice.specs.Sectors.{integral_cmp}
@@ -23,7 +20,6 @@ use Rattle.ibp_algebra.specs.Spans.{row_at, SameSum, coefficient_by}
 use Rattle.sparse_rows.specs.Rows.{IntegralSum, SameRow}
 use Rattle.ibp_algebra.proofs.Combinations.{weighted_sum-combination}
 use Rattle.ibp_algebra.proofs.CombinationLaws.{combination-rows}
-use Rattle.ibp_algebra.proofs.Members.{order_decides}
 use Rattle.ibp_algebra.proofs.Combinations.{AllKeys-weaker}
 use Rattle.ibp_algebra.proofs.Lookups.{AllKeys-place}
 use Rattle.sparse_terms.proofs.Merging.{IsCanonical-append}
@@ -35,7 +31,7 @@ use Rattle.row_echelon.proofs.Eliminating.{IsEntry-at}
 
 -- ---- sums by place
 
-weighted_sum-set : (w : ℕ → ℕ) (first : ℕ) (xs : List ℕ) (i : ℕ) (x value : ℕ) → i < length xs → x ≡ get_or xs i 0
+pub weighted_sum-set : (w : ℕ → ℕ) (first : ℕ) (xs : List ℕ) (i : ℕ) (x value : ℕ) → i < length xs → x ≡ get_or xs i 0
     → weighted_sum w (by_place first (slice_set xs i value)) + x * w (first + i) ≡ weighted_sum w (by_place first xs) + value * w (first + i)
 weighted_sum-set w first [] i x value within is = absurd (omega arith)
 weighted_sum-set w first (y ∷ xs) zero x value within is =

@@ -90,7 +90,7 @@ Weighing-zero es h whole weights sums all value all_is none k =
       above = fewer es (length all) (length sums) (omega (arith, longer)) weights k.above;
     }
 
-nat_greater : (m n : ℕ) → n < m → nat_cmp m n ≡ Greater
+pub nat_greater : (m n : ℕ) → n < m → nat_cmp m n ≡ Greater
 nat_greater m n less =
     by_ranked (m < n) (m ≡ n) (n < m) (nat_cmp m n) (ranked m n (nat_cmp m n) refl) (λ e below. absurd (omega arith)) (λ e same. absurd (omega (arith, same))) (λ e above. e)
 

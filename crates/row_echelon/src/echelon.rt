@@ -6,10 +6,12 @@ ghost use Rattle.ibp_algebra.specs.Spans.{IsReducedForm};
 ghost use Rattle.sparse_rows.specs.Rows.{SameRow};
 ghost use Rattle.row_echelon.specs.Echelons.{row_numbered, IsNumber, InKeptSpan, AreIndependent, IsBelow, Inserts, number_cmp};
 
-use crate::elimination::{append, eliminate, eliminate_leads};
+use crate::elimination::append;
 use crate::inserted::Inserted;
 use crate::kept::Kept;
 use crate::substitution::substitute;
+use crate::table::Table;
+use crate::ways::{leads_left, whole_left};
 use ibp_base::{List, NoMemory};
 use ibp_field::Residue;
 use indexmap::IndexMap;
@@ -30,6 +32,7 @@ pub struct Reduced {
 pub struct Echelon {
     alloc: Global,
     kept: IndexMap<Integral, Kept>,
+    table: Option<Table>,
 }
 
 impl Model for Echelon {
@@ -37,11 +40,12 @@ impl Model for Echelon {
 
     ghost Value = { List (ℕ × List (List ℤ × ℕ)) };
 
-    ghost use Rattle.row_echelon.specs.KeptRows.{originals, IsEchelon};
+    ghost use Rattle.row_echelon.specs.KeptRows.{originals, reduced_rows, IsEchelon};
+    ghost use Rattle.row_echelon.specs.Tables.{AnyTable};
 
     ghost view = { λ s. originals [] s.kept.entries };
 
-    ghost invariant = { λ s. IsEchelon s.kept.entries };
+    ghost invariant = { λ s. IsEchelon s.kept.entries × AnyTable s.table (reduced_rows s.kept.entries) };
 }
 
 impl Echelon {
@@ -52,7 +56,20 @@ impl Echelon {
         Echelon {
             alloc,
             kept: IndexMap::new(alloc),
+            table: None,
         }
+    }
+
+    /// No rows, with a column for each integral of the rows that will be inserted. Any other row may come too,
+    /// and only takes longer.
+    pub fn over(alloc: Global, rows: &[Row]) -> Result<Echelon, NoMemory>
+        ensures { IfOk result (λ echelon. echelon ≡ []) }
+    {
+        Ok(Echelon {
+            alloc,
+            kept: IndexMap::new(alloc),
+            table: Table::over(alloc, rows)?,
+        })
     }
 
     /// Keeps the row with this number, unless it is in the span of the kept rows.
@@ -62,13 +79,18 @@ impl Echelon {
         ensures err { OnErr result (self.new ≡ self.old) }
         ensures independent { AreIndependent self.new }
     {
-        let left = eliminate_leads(self.alloc, &self.kept, row)?;
-        match left.rest.lead() {
-            None => Ok(Inserted::Dependent),
+        let table = self.table.take();
+        let left = leads_left(self.alloc, &self.kept, table, row)?;
+        match left.eliminated.rest.lead() {
+            None => {
+                self.table = left.table;
+                Ok(Inserted::Dependent)
+            }
             Some(first) => {
                 let inverse = first.1.inverse().unwrap();
-                let entry = Kept::of(self.alloc, number, &left, inverse)?;
+                let entry = Kept::of(self.alloc, number, &left.eliminated, inverse)?;
                 append(&mut self.kept, first.0, entry)?;
+                self.table = left.table;
                 Ok(Inserted::Kept)
             }
         }
@@ -84,11 +106,19 @@ impl Echelon {
         ensures canonical { IfOk result (λ reduced. IsCanonical integral_cmp reduced.rest) }
         ensures independent { AreIndependent self.now }
     {
-        let left = eliminate(alloc, &self.kept, row)?;
+        let left = whole_left(alloc, &self.kept, &self.table, row)?;
         let weights = substitute(alloc, &self.kept, &left.steps)?;
         Ok(Reduced {
             rest: left.rest,
             weights: List::from_vec(weights),
         })
+    }
+
+    /// The reduced form of a row by the span of the kept rows alone.
+    pub fn reduced_form(&self, alloc: Global, row: &Row) -> Result<Row, NoMemory>
+        ensures form { IfOk result (λ form. IsReducedForm integral_cmp (InKeptSpan self.now) row.now form) }
+        ensures canonical { IfOk result (λ form. IsCanonical integral_cmp form) }
+    {
+        Ok(whole_left(alloc, &self.kept, &self.table, row)?.rest)
     }
 }

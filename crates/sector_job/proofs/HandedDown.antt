@@ -10,7 +10,7 @@ use Rattle.std.proofs.lemmas.List.{take_more, take_all, map-append}
 use Rattle.std.proofs.lemmas.List.Elements.{Contains-append_left, Contains-append_right, Contains-append_cases, filter-append}
 use Rattle.std.proofs.lemmas.List.Kept.{Contains-dedup, Contains-from_dedup, IsStrictlySortedBy-dedup}
 use Rattle.std.proofs.lemmas.List.Sorted.{Contains-permutation, IsPermutation-sym}
-use Rattle.ibp_algebra.specs.FormalSum.{FormalSum, AllKeys, IsCanonical}
+use Rattle.ibp_algebra.specs.FormalSum.{AllKeys, IsCanonical}
 use Rattle.ibp_algebra.specs.Spans.{row_at}
 use Rattle.ibp_algebra.proofs.Canonical.{same_canonical}
 use Rattle.ibp_algebra.proofs.Combinations.{AllKeys-weaker}
@@ -22,7 +22,7 @@ use Rattle.sector_lattice.specs.Orders.{integral_cmp_total, same_integrals, inte
 use Rattle.sector_lattice.specs.Subsectors.{is_subsector}
 use Rattle.sector_lattice.proofs.Listed.{subsector_decides}
 use Rattle.sparse_rows.specs.Rows.{IntegralSum, SameRow, coefficient_of}
-use Rattle.relation_pick.specs.Picking.{AllAnswers}
+use Rattle.relation_pick.specs.Picking.{AllForms}
 use Rattle.ibp_base.proofs.Members.{in_cases, in_head, in_tail, in_none, in_filter, from_filter}
 use Rattle.sector_job.specs.Candidates.{Integral, target_row, OccursFor, OccursInForm, AreTails}
 use Rattle.sector_job.specs.Handing.{is_proper, integrals_below}
@@ -92,31 +92,27 @@ module _ (sector : ℕ) (candidates : List IntegralSum) where
   none_occurs : (integral : Integral) → OccursInForm candidates [] integral → ⊥
   none_occurs integral (k, found, within, is, h) = omega (arith, within)
 
-  pub handed : (targets : List Integral) (forms : List IntegralSum) (weights : List (FormalSum ℕ)) → AllAnswers integral_cmp candidates (map target_row targets) forms weights
+  pub handed : (targets : List Integral) (forms : List IntegralSum) → AllForms integral_cmp candidates (map target_row targets) forms
       → (integral : Integral) → Contains (flat_map (integrals_below sector) forms) integral → IsProperSubsector (sector_of integral) sector × OccursInForm candidates targets integral
-  handed [] [] [] h integral inside = absurd (in_none integral inside)
-  handed [] [] (w ∷ weights) h integral inside = absurd h
-  handed [] (f ∷ forms) weights h integral inside = absurd h
-  handed (t ∷ targets) [] weights h integral inside = absurd h
-  handed (t ∷ targets) (f ∷ forms) [] h integral inside = absurd h
-  handed (t ∷ targets) (f ∷ forms) (w ∷ weights) h integral inside =
+  handed [] [] h integral inside = absurd (in_none integral inside)
+  handed [] (f ∷ forms) h integral inside = absurd h
+  handed (t ∷ targets) [] h integral inside = absurd h
+  handed (t ∷ targets) (f ∷ forms) h integral inside =
       elim (Contains-append_cases (integrals_below sector f) (flat_map (integrals_below sector) forms) integral inside) [
         | inl here ↦
             let kept = from_filter (λ (i : Integral). is_proper (sector_of i) sector) (map (λ (term : Integral × ℕ). term.0) f) integral here in (
               proper_yes (sector_of integral) sector kept.1,
               first_occurs t targets integral (record { form = f; reduced = h.0.reduced; occurs = key_counts f h.0.canonical integral kept.0 }),
             )
-        | inr rest ↦ let found = handed targets forms weights h.1 integral rest in (found.0, later_occurs t targets integral found.1)
+        | inr rest ↦ let found = handed targets forms h.1 integral rest in (found.0, later_occurs t targets integral found.1)
       ]
 
-  pub back : (targets : List Integral) (forms : List IntegralSum) (weights : List (FormalSum ℕ)) → AllAnswers integral_cmp candidates (map target_row targets) forms weights
+  pub back : (targets : List Integral) (forms : List IntegralSum) → AllForms integral_cmp candidates (map target_row targets) forms
       → (integral : Integral) → IsProperSubsector (sector_of integral) sector → OccursInForm candidates targets integral → Contains (flat_map (integrals_below sector) forms) integral
-  back [] [] [] h integral proper occurs = absurd (none_occurs integral occurs)
-  back [] [] (w ∷ weights) h integral proper occurs = absurd h
-  back [] (f ∷ forms) weights h integral proper occurs = absurd h
-  back (t ∷ targets) [] weights h integral proper occurs = absurd h
-  back (t ∷ targets) (f ∷ forms) [] h integral proper occurs = absurd h
-  back (t ∷ targets) (f ∷ forms) (w ∷ weights) h integral proper occurs =
+  back [] [] h integral proper occurs = absurd (none_occurs integral occurs)
+  back [] (f ∷ forms) h integral proper occurs = absurd h
+  back (t ∷ targets) [] h integral proper occurs = absurd h
+  back (t ∷ targets) (f ∷ forms) h integral proper occurs =
       elim (occurs_cases t targets integral occurs) [
         | inl here ↦
             let same : SameRow here.form f =
@@ -126,23 +122,23 @@ module _ (sector : ℕ) (candidates : List IntegralSum) where
             Contains-append_left (integrals_below sector f) (flat_map (integrals_below sector) forms) integral
             (in_filter (λ (i : Integral). is_proper (sector_of i) sector) (map (λ (term : Integral × ℕ). term.0) f) integral (yes_proper (sector_of integral) sector proper) (counts_key f integral counts))
         | inr rest ↦
-            Contains-append_right (integrals_below sector f) (flat_map (integrals_below sector) forms) integral (back targets forms weights h.1 integral proper rest)
+            Contains-append_right (integrals_below sector f) (flat_map (integrals_below sector) forms) integral (back targets forms h.1 integral proper rest)
       ]
 
   -- what is found in the forms, sorted and without repeats, is the tails
-  pub are_tails : (targets : List Integral) (forms : List IntegralSum) (weights : List (FormalSum ℕ)) (found sorted tails : List Integral)
-      → AllAnswers integral_cmp candidates (map target_row targets) forms weights → found ≡ flat_map (integrals_below sector) forms
+  pub are_tails : (targets : List Integral) (forms : List IntegralSum) (found sorted tails : List Integral)
+      → AllForms integral_cmp candidates (map target_row targets) forms → found ≡ flat_map (integrals_below sector) forms
       → IsPermutation found sorted → IsSorted integral_cmp sorted → tails ≡ dedup (eq_by_cmp integral_cmp) sorted → AreTails sector targets candidates tails
-  are_tails targets forms weights found sorted tails answers is moved up kept =
+  are_tails targets forms found sorted tails answers is moved up kept =
       record {
         ascend = rw kept (IsStrictlySortedBy-dedup integral_cmp_total (λ x y. refl) sorted up);
         members = λ integral. (
           (λ inside.
               let in_sorted : Contains sorted integral = Contains-from_dedup (eq_by_cmp integral_cmp) sorted integral (subst (λ (xs : List Integral). Contains xs integral) kept inside) in
               let in_found : Contains found integral = Contains-permutation sorted found integral (IsPermutation-sym found sorted moved) in_sorted in
-              handed targets forms weights answers integral (subst (λ (xs : List Integral). Contains xs integral) is in_found)),
+              handed targets forms answers integral (subst (λ (xs : List Integral). Contains xs integral) is in_found)),
           (λ (proper, occurs).
-              let in_found : Contains found integral = subst (λ (xs : List Integral). Contains xs integral) (sym is) (back targets forms weights answers integral proper occurs) in
+              let in_found : Contains found integral = subst (λ (xs : List Integral). Contains xs integral) (sym is) (back targets forms answers integral proper occurs) in
               let in_sorted : Contains sorted integral = Contains-permutation found sorted integral moved in_found in
               subst (λ (xs : List Integral). Contains xs integral) (sym kept)
               (Contains-dedup (eq_by_cmp_equiv integral_cmp_total) (λ x y e. (integrals_decide x y).0 e) sorted integral in_sorted)),

@@ -22,6 +22,7 @@ use Rattle.family.specs.declared.parts.StrippedField.{StrippedField}
 use Rattle.module_vec.specs.ModuleVector.{ModuleVector}
 use Rattle.module_basis.specs.PlainRun.{RunEnd, Done, PairsSpent as RunSpent, DegreeOver as RunOver}
 use Rattle.relation_pick.proofs.SomePick.{some_answers}
+use Rattle.relation_pick.proofs.Forms.{AllForms-from_answers}
 use Rattle.relay_core.proofs.Told.{all_taken_in}
 use Rattle.sector_module.proofs.SomeBasis.{IsMemberField, some_run_end, some_sector_basis}
 use Rattle.sector_job.specs.Candidates.{Integral, Label, labels_at, labels, field_numbered, IsCandidate, AreCandidates, AreSeedsFor, AreTails, target_row, dots_bound, rank_bound}
@@ -81,14 +82,15 @@ module _ (family : FamilyData) (sector : ℕ) (fields : List StrippedField) (mem
 some_tails : (sector : ℕ) (targets : List Integral) (candidates : List IntegralSum) → (tails : List Integral) × AreTails sector targets candidates tails
 some_tails sector targets candidates =
     let answers = some_answers integral_cmp integral_cmp_total same_integrals candidates (map target_row targets) in
+    let forms = AllForms-from_answers integral_cmp candidates (map target_row targets) answers.0 answers.1 answers.2 in
     let found = flat_map (integrals_below sector) answers.0 in
     let sorted = all_taken_in integral_cmp integral_cmp_total same_integrals found [] (sorted_none integral_cmp) in (
       sorted.0,
       record {
         ascend = sorted.1.ascends;
         members = λ integral. (
-          λ inside. handed sector candidates targets answers.0 answers.1 answers.2 integral (elim ((sorted.1.members integral).0 inside) [ inl none ↦ absurd (in_none integral none) | inr is ↦ is ]),
-          λ h. (sorted.1.members integral).1 (inr (back sector candidates targets answers.0 answers.1 answers.2 integral h.0 h.1)),
+          λ inside. handed sector candidates targets answers.0 forms integral (elim ((sorted.1.members integral).0 inside) [ inl none ↦ absurd (in_none integral none) | inr is ↦ is ]),
+          λ h. (sorted.1.members integral).1 (inr (back sector candidates targets answers.0 forms integral h.0 h.1)),
         );
       },
     )

@@ -8,7 +8,7 @@ ghost use Rattle.sector_job.specs.Handing.{is_proper, integrals_below};
 
 use ibp_base::NoMemory;
 use ibp_field::Residue;
-use relation_pick::pick;
+use relation_pick::reduced_forms;
 use sector_lattice::{Integral, Sector, is_subsector};
 use sparse_rows::Row;
 use std::alloc::Global;
@@ -25,8 +25,8 @@ pub fn tails_of(
     ensures { IfOk result (λ tails. AreTails sector.0 targets.now candidates.now tails.items) }
 {
     let rows = target_rows(alloc, targets)?;
-    let picked = pick(alloc, candidates, &rows)?;
-    let mut tails = all_below(alloc, sector, picked.reductions.as_slice())?;
+    let forms = reduced_forms(alloc, candidates, &rows)?;
+    let mut tails = all_below(alloc, sector, forms.as_slice())?;
     sort(&mut tails);
     tails.dedup();
     Ok(tails)

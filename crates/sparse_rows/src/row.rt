@@ -63,6 +63,14 @@ impl Row {
         })
     }
 
+    /// The row of terms that stand highest first, with no zero among them.
+    pub fn from_sorted(terms: Vec<(Integral, Residue)>) -> Row
+        requires { IsCanonical integral_cmp terms.items }
+        ensures { result ≡ terms.items }
+    {
+        Row { terms }
+    }
+
     /// The same row.
     pub fn copy(&self, alloc: Global) -> Result<Row, NoMemory>
         ensures same { IfOk result (λ row. row ≡ self.now) }

@@ -2,15 +2,11 @@
 #![tactic(auto)]
 
 #[cfg(test)]
-mod divisions;
-#[cfg(test)]
 mod lists;
 #[cfg(test)]
 mod monomials;
 #[cfg(test)]
 mod outside;
-#[cfg(test)]
-mod pairs;
 #[cfg(test)]
 mod polynomials;
 #[cfg(test)]
@@ -18,12 +14,8 @@ mod residues;
 #[cfg(test)]
 mod rows;
 #[cfg(test)]
-mod runs;
-#[cfg(test)]
 mod sectors;
 #[cfg(test)]
 mod shared;
 #[cfg(test)]
 mod texts;
-#[cfg(test)]
-mod vectors;

@@ -38,31 +38,55 @@ fn a_name_has_the_number_that_it_was_given(rt: HostRuntime) -> Result<(), Fail> 
     Ok(())
 }
 
+const NAMES: [(&str, bool); 11] = [
+    ("s", true),
+    ("_a0", true),
+    ("z", true),
+    ("z1b", true),
+    ("abcdefghijklmnopqrstuvwxyz_ABCDE", true),
+    ("abcdefghijklmnopqrstuvwxyz_ABCDEF", false),
+    ("", false),
+    ("0", false),
+    ("a-b", false),
+    ("z1", false),
+    ("z01", false),
+];
+
 #[test]
 fn numbers_have_names_that_no_variable_has(rt: HostRuntime) {
-    let rows = [
-        ("s", true),
-        ("_a0", true),
-        ("z", true),
-        ("z1b", true),
-        ("abcdefghijklmnopqrstuvwxyz_ABCDE", true),
-        ("abcdefghijklmnopqrstuvwxyz_ABCDEF", false),
-        ("", false),
-        ("0", false),
-        ("a-b", false),
-        ("z1", false),
-        ("z01", false),
-    ];
-    for (name, may_have) in rows {
+    for (name, may_have) in NAMES {
         assert_eq!(rt; is_number_name(name.as_bytes()), may_have, "at {name}");
     }
 }
 
+const CONSTANTS: [(&str, u32); 8] = [
+    ("1/2", 1073741824),
+    (" +1 ", 1),
+    ("(0)^0", 1),
+    ("2^020", 1048576),
+    ("-1\n", 2147483646),
+    ("2*3-4/2", 4),
+    ("340282366920938463463374607431768211455", 15),
+    ("0000000000000000000000000000000000000000000001", 1),
+];
+
+// The terms of a text in two variables.
+fn terms_of_text(
+    rt: &impl Abort,
+    alloc: Global,
+    text: &str,
+    numbers: &Numbers,
+) -> Result<Vec<(u32, u16, u16)>, Fail> {
+    assert!(rt; text.len() < 1000);
+    let poly = parse_poly(alloc, text, 2, numbers)?;
+    terms_of(alloc, &poly)
+}
+
 #[test]
-fn texts_have_their_values(rt: HostRuntime) -> Result<(), Fail> {
+fn a_text_has_its_terms(rt: HostRuntime) -> Result<(), Fail> {
     let mut numbers = Numbers::empty(rt.alloc());
     numbers.insert("s", Residue::one())?;
-    let bubble = parse_poly(rt.alloc(), "4*s*z1 - (z2 - z1 - s)^2", 2, &numbers)?;
+    let terms = terms_of_text(&rt, rt.alloc(), "4*s*z1 - (z2 - z1 - s)^2", &numbers)?;
     let wanted = [
         (2147483646, 2, 0),
         (2, 1, 1),
@@ -71,63 +95,54 @@ fn texts_have_their_values(rt: HostRuntime) -> Result<(), Fail> {
         (2, 0, 1),
         (2147483646, 0, 0),
     ];
-    assert_eq!(rt;
-        terms_of(rt.alloc(), &bubble)?.as_slice(),
-        wanted.as_slice()
-    );
-    let constants = [
-        ("1/2", 1073741824),
-        (" +1 ", 1),
-        ("(0)^0", 1),
-        ("2^020", 1048576),
-        ("-1\n", 2147483646),
-        ("2*3-4/2", 4),
-        ("340282366920938463463374607431768211455", 15),
-        ("0000000000000000000000000000000000000000000001", 1),
-    ];
-    for (text, value) in constants {
-        assert!(rt; text.len() < 1000);
-        assert_eq!(rt; read_number(rt.alloc(), text)?.value(), value, "at {text}");
-        let poly = parse_poly(rt.alloc(), text, 2, &numbers)?;
-        assert_eq!(rt;
-            terms_of(rt.alloc(), &poly)?.as_slice(),
-            [(value, 0, 0)].as_slice(),
-            "at {text}"
-        );
-    }
+    assert!(rt; terms.as_slice() == wanted.as_slice());
     Ok(())
 }
 
 #[test]
+fn texts_have_their_values(rt: HostRuntime) -> Result<(), Fail> {
+    let mut numbers = Numbers::empty(rt.alloc());
+    numbers.insert("s", Residue::one())?;
+    for (text, value) in CONSTANTS {
+        assert!(rt; text.len() < 1000);
+        assert_eq!(rt; read_number(rt.alloc(), text)?.value(), value, "at {text}");
+        let terms = terms_of_text(&rt, rt.alloc(), text, &numbers)?;
+        assert!(rt; terms.as_slice() == [(value, 0, 0)].as_slice(), "at {text}");
+    }
+    Ok(())
+}
+
+const FAULTS: [(&str, TextFault); 15] = [
+    ("z1 +", TextFault::Syntax { at: 4 }),
+    ("z1 + q", TextFault::UnknownName { at: 5 }),
+    ("z1^21", TextFault::PowerOver { at: 3 }),
+    ("1/0", TextFault::ZeroDivisor { at: 1 }),
+    ("z1/z2", TextFault::NotConstant { at: 2 }),
+    ("(z1*z2)^13", TextFault::DegreeOver { at: 7 }),
+    (
+        "340282366920938463463374607431768211456",
+        TextFault::NumberOver { at: 0 },
+    ),
+    (
+        "(((((((((((((((((((((((((((((((((((((((((((((((((((((((((((((((((",
+        TextFault::DepthOver { at: 64 },
+    ),
+    ("", TextFault::Syntax { at: 0 }),
+    ("1 \r", TextFault::Syntax { at: 2 }),
+    ("z01", TextFault::UnknownName { at: 0 }),
+    ("z3", TextFault::UnknownName { at: 0 }),
+    ("1/0 + $", TextFault::Syntax { at: 6 }),
+    ("2 z1", TextFault::Syntax { at: 2 }),
+    (
+        "abcdefghijklmnopqrstuvwxyzabcdefg",
+        TextFault::UnknownName { at: 0 },
+    ),
+];
+
+#[test]
 fn texts_have_their_first_fault(rt: HostRuntime) -> Result<(), Fail> {
     let numbers = Numbers::empty(rt.alloc());
-    let faults = [
-        ("z1 +", TextFault::Syntax { at: 4 }),
-        ("z1 + q", TextFault::UnknownName { at: 5 }),
-        ("z1^21", TextFault::PowerOver { at: 3 }),
-        ("1/0", TextFault::ZeroDivisor { at: 1 }),
-        ("z1/z2", TextFault::NotConstant { at: 2 }),
-        ("(z1*z2)^13", TextFault::DegreeOver { at: 7 }),
-        (
-            "340282366920938463463374607431768211456",
-            TextFault::NumberOver { at: 0 },
-        ),
-        (
-            "(((((((((((((((((((((((((((((((((((((((((((((((((((((((((((((((((",
-            TextFault::DepthOver { at: 64 },
-        ),
-        ("", TextFault::Syntax { at: 0 }),
-        ("1 \r", TextFault::Syntax { at: 2 }),
-        ("z01", TextFault::UnknownName { at: 0 }),
-        ("z3", TextFault::UnknownName { at: 0 }),
-        ("1/0 + $", TextFault::Syntax { at: 6 }),
-        ("2 z1", TextFault::Syntax { at: 2 }),
-        (
-            "abcdefghijklmnopqrstuvwxyzabcdefg",
-            TextFault::UnknownName { at: 0 },
-        ),
-    ];
-    for (text, fault) in faults {
+    for (text, fault) in FAULTS {
         assert_eq!(rt;
             fault_of(&rt, rt.alloc(), text, 2, &numbers),
             Err(fault),
@@ -139,17 +154,18 @@ fn texts_have_their_first_fault(rt: HostRuntime) -> Result<(), Fail> {
     Ok(())
 }
 
+const VARIABLE_TEXTS: [(&str, u8, Result<usize, TextFault>); 5] = [
+    ("z1 + z9 + z10 + z12", 12, Ok(4)),
+    ("z12", 11, Err(TextFault::UnknownName { at: 0 })),
+    ("z13", 12, Err(TextFault::UnknownName { at: 0 })),
+    ("z010", 12, Err(TextFault::UnknownName { at: 0 })),
+    ("1*z100", 12, Err(TextFault::UnknownName { at: 2 })),
+];
+
 #[test]
 fn variables_are_known_up_to_the_last_one(rt: HostRuntime) -> Result<(), Fail> {
     let numbers = Numbers::empty(rt.alloc());
-    let rows = [
-        ("z1 + z9 + z10 + z12", 12, Ok(4)),
-        ("z12", 11, Err(TextFault::UnknownName { at: 0 })),
-        ("z13", 12, Err(TextFault::UnknownName { at: 0 })),
-        ("z010", 12, Err(TextFault::UnknownName { at: 0 })),
-        ("1*z100", 12, Err(TextFault::UnknownName { at: 2 })),
-    ];
-    for (text, n, answer) in rows {
+    for (text, n, answer) in VARIABLE_TEXTS {
         assert_eq!(rt;
             fault_of(&rt, rt.alloc(), text, n, &numbers),
             answer,

@@ -12,6 +12,8 @@ use anyhow::{Context, Result, ensure};
 use example::{Example, List};
 use std::fs;
 use std::rt::Files;
+use std::sync::Wait;
+use std::thread::Threads;
 use told::{Ran, is_as_told, message_of};
 
 fn read_list<R: Files + AllocGlobal>(rt: &R) -> Result<List> {
@@ -35,14 +37,20 @@ fn print_line(rt: &impl Print, example: &Example, ran: &Ran, text: &[u8]) -> Res
     Ok(is_told)
 }
 
-fn try_example<R: Files + Print + AllocGlobal>(rt: &R, example: &Example) -> Result<bool> {
+fn try_example<R: Files + Print + AllocGlobal + Threads + Wait + Sync>(
+    rt: &R,
+    example: &Example,
+) -> Result<bool> {
     let bytes = file::bytes_of(rt, &example.file)?;
     let text = told::text_of(rt, &example.told)?;
-    let ran = outside::run(rt.alloc(), example, bytes)?;
+    let ran = outside::run(rt, example, bytes)?;
     print_line(rt, example, &ran, &text)
 }
 
-fn try_all<R: Files + Print + AllocGlobal>(rt: &R, examples: &[Example]) -> Result<bool> {
+fn try_all<R: Files + Print + AllocGlobal + Threads + Wait + Sync>(
+    rt: &R,
+    examples: &[Example],
+) -> Result<bool> {
     let mut are_told = true;
     for example in examples {
         are_told &= try_example(rt, example).with_context(|| example.name.as_str())?;

@@ -3,9 +3,11 @@
 use crate::example::{Example, Outside};
 use crate::told::Ran;
 use anyhow::{Result, ensure};
-use commands::run_calm;
-use ibp_outside::{MemorySink, MemorySource};
+use ibp_outside::{MemorySink, MemorySource, OpenGate};
 use std::alloc::Global;
+use std::sync::Wait;
+use std::thread::Threads;
+use top_call::run_tool;
 
 // How many bytes a call moves, where the example says nothing of it.
 const BYTES: usize = 4096;
@@ -40,10 +42,16 @@ fn sink_of(alloc: Global, outside: Option<&Outside>) -> Result<MemorySink> {
 }
 
 /// Runs the words of an example over these bytes.
-pub fn run(alloc: Global, example: &Example, bytes: Vec<u8>) -> Result<Ran> {
+pub fn run<R: AllocGlobal + Threads + Wait + Sync>(
+    rt: &R,
+    example: &Example,
+    bytes: Vec<u8>,
+) -> Result<Ran> {
+    let alloc = rt.alloc();
     let mut source = source_of(alloc, bytes, example.source.as_ref())?;
     let mut sink = sink_of(alloc, example.sink.as_ref())?;
-    let status = run_calm(alloc, &example.words, &mut source, &mut sink);
+    let words = &example.words;
+    let status = run_tool(rt, alloc, words, &mut source, &mut sink, &OpenGate);
     let taken = Vec::from_slice(alloc, sink.taken())?;
     Ok(Ran { status, taken })
 }

@@ -49,6 +49,56 @@ fn wait_for_the_first<L: Ledger, C: Ledger, R: Wait + Abort>(
     assert!(rt; desk.locked.lock(rt).give_back(second, Sector(1)).is_err());
 }
 
+// The first seat posts the tail of sector 1, and gives the sector back.
+fn post_and_give_back<L: Ledger, C: Ledger, R: Wait + Abort>(
+    rt: &R,
+    desk: &Desk<SectorResult, L, C>,
+    first: &Seat<L, C>,
+    piece: &SectorResult,
+) {
+    assert!(rt; desk.locked.lock(rt).post(first, piece, 0, 1).is_ok());
+    assert!(rt; desk.locked.lock(rt).give_back(first, Sector(1)).is_ok());
+}
+
+// Whether the piece is taken in.
+fn is_finished<L: Ledger, C: Ledger, R: Wait>(
+    rt: &R,
+    desk: &Desk<SectorResult, L, C>,
+    seat: &mut Seat<L, C>,
+    piece: SectorResult,
+) -> bool
+    ensures { KeepsParts seat.old seat.new }
+{
+    desk.locked.lock(rt).finish(seat, piece).is_ok()
+}
+
+// Takes this sector, works on it and finishes it.
+fn finish_next<L: Ledger, C: Ledger, R: Wait + Abort>(
+    rt: &R,
+    alloc: Global,
+    plan: &Plan,
+    desk: &Desk<SectorResult, L, C>,
+    seat: &mut Seat<L, C>,
+    number: u16,
+)
+    ensures { KeepsParts seat.old seat.new }
+{
+    let piece = next_result(rt, alloc, plan, desk, seat, number);
+    let finished = is_finished(rt, desk, seat, piece);
+    assert!(rt; finished);
+}
+
+// Whether the seat is told that all is done.
+fn sees_closed<L: Ledger, C: Ledger, R: Wait>(
+    rt: &R,
+    desk: &Desk<SectorResult, L, C>,
+    seat: &mut Seat<L, C>,
+) -> bool
+    ensures { KeepsParts seat.old seat.new }
+{
+    matches!(desk.locked.lock(rt).take(seat), Ok(Taken::Closed))
+}
+
 // The first seat posts the tail of sector 1, gives the sector back, and then finishes both sectors.
 fn finish_both<L: Ledger, C: Ledger, R: Wait + Abort>(
     rt: &R,
@@ -63,13 +113,10 @@ fn finish_both<L: Ledger, C: Ledger, R: Wait + Abort>(
 {
     let piece = next_result(rt, alloc, plan, desk, first, 1);
     wait_for_the_first(rt, desk, second);
-    assert!(rt; desk.locked.lock(rt).post(first, &piece, 0, 1).is_ok());
-    assert!(rt; desk.locked.lock(rt).give_back(first, Sector(1)).is_ok());
-    let again = next_result(rt, alloc, plan, desk, first, 1);
-    assert!(rt; desk.locked.lock(rt).finish(first, again).is_ok());
-    let last = next_result(rt, alloc, plan, desk, first, 0);
-    assert!(rt; desk.locked.lock(rt).finish(first, last).is_ok());
-    let closed = matches!(desk.locked.lock(rt).take(first), Ok(Taken::Closed));
+    post_and_give_back(rt, desk, first, &piece);
+    finish_next(rt, alloc, plan, desk, first, 1);
+    finish_next(rt, alloc, plan, desk, first, 0);
+    let closed = sees_closed(rt, desk, first);
     assert!(rt; closed);
 }
 

@@ -1,13 +1,12 @@
-use Rattle.std.proofs.Common.{◌≡◌, Option, Some, None, ok_or, ap₂, ◌∙◌}
+use Rattle.std.proofs.Common.{◌≡◌, Option, Some, None, ok_or}
 use Rattle.std.specs.Prelude.{IfOk}
 use Rattle.std.specs.Result.{IsErrOf}
 use Rattle.clap.specs.Matches.{found_of}
 use Rattle.clap.specs.Walk.{rows_of}
-use Rattle.clap.proofs.WalkLemmas.{first_value-rows}
 use Rattle.commands.specs.declared.words.Command.{Command}
 use Rattle.commands.specs.declared.words.WordsFault.TheVariants.{Usage}
-use Rattle.commands.specs.Words.{command_of_parts, command_of_rows}
-use Rattle.commands.proofs.Rows.{command_given}
+use Rattle.commands.specs.Words.{command_of_rows}
+use Rattle.commands.proofs.Rows.{command_given, parts_given}
 use Rattle.commands.proofs.words.command_of.Goals as goal
 
 given_command : (o found : Option Command) → found ≡ o → IfOk (ok_or o Usage) (λ c. found ≡ Some c)
@@ -21,17 +20,11 @@ given_none (Some c) found is same = absurd (cc)
 pub returns-clause-command : goal.returns-clause-command
 returns-clause-command c =
     let f = found_of c.in_ok-matches.matches in
-    let command_is = c.get_str.ensures ∙ first_value-rows f _ in
-    let number_is = c.get_str-2.ensures ∙ first_value-rows f _ in
-    let workers_is = c.get_str-3.ensures ∙ first_value-rows f _ in
-    let parts = c.command_of_parts.ensures ∙ ap₂ (λ a b. a b) (ap₂ command_of_parts command_is number_is) workers_is in
+    let parts = parts_given f _ _ _ _ c.get_str.ensures c.get_str-2.ensures c.get_str-3.ensures c.command_of_parts.ensures in
     rw c.ok_or.ensures.value (given_command c.command_of_parts.result _ (command_given _ command_of_rows (rows_of f) _ c.in_ok-matches.ensures.rows parts))
 
 pub returns-clause-usage : goal.returns-clause-usage
 returns-clause-usage c same =
     let f = found_of c.in_ok-matches.matches in
-    let command_is = c.get_str.ensures ∙ first_value-rows f _ in
-    let number_is = c.get_str-2.ensures ∙ first_value-rows f _ in
-    let workers_is = c.get_str-3.ensures ∙ first_value-rows f _ in
-    let parts = c.command_of_parts.ensures ∙ ap₂ (λ a b. a b) (ap₂ command_of_parts command_is number_is) workers_is in
+    let parts = parts_given f _ _ _ _ c.get_str.ensures c.get_str-2.ensures c.get_str-3.ensures c.command_of_parts.ensures in
     given_none c.command_of_parts.result _ (command_given _ command_of_rows (rows_of f) _ c.in_ok-matches.ensures.rows parts) (rw c.ok_or.ensures.value at same)

@@ -15,7 +15,7 @@ substitute-requires-clause-places c = subst (AllKeys (λ place. place < length c
 pub returns-clause-rest : goal.returns-clause-rest
 returns-clause-rest c =
     subst (λ (kept : KeptRows). IsReducedForm integral_cmp (InKeptSpan kept) c.args.row.now c.in_ok-left.left.rest) c.self.view_is
-    (IsReducedForm-left c.self.inside.kept.entries c.args.row.now c.in_ok-left.left.rest c.in_ok-left.left.steps.items c.self.invariant
+    (IsReducedForm-left c.self.inside.kept.entries c.args.row.now c.in_ok-left.left.rest c.in_ok-left.left.steps.items c.self.invariant.0
     c.in_ok-left.ensures.sum c.in_ok-left.ensures.places c.in_ok-left.ensures.reduced)
 
 pub returns-clause-weights : goal.returns-clause-weights

@@ -16,7 +16,9 @@ fn ties_go_to_the_lower_second_number_and_then_to_the_lower_first(
     queue.push(pair(1, 3))?;
     queue.push(pair(1, 2))?;
     for (first, second) in [(1, 2), (1, 3), (2, 3)] {
+        assert!(rt; queue.contains(first, second));
         assert!(rt; queue.pop() == Some(pair(first, second)));
+        assert!(rt; !queue.contains(first, second));
     }
     assert!(rt; queue.pop().is_none());
     Ok(())
