@@ -2,9 +2,10 @@
 ghost use Rattle.std.specs.Prelude.{◌≡◌};
 ghost use Rattle.neat_workers.specs.Seats.{KeepsParts};
 
-use crate::fixtures::{QUAD, plan_of, worked};
+use crate::fixtures::{QUAD, QUAD_SYSTEM, closes, plan_of, worked};
 use neat_system::opened;
-use relay_core::Taken;
+use neat_workers::finish_alone;
+use relay_core::{RelayState, Taken};
 use relay_desk::{Desk, Opened, Seat};
 use sector_job::{Plan, SectorResult};
 use sector_lattice::Sector;
@@ -146,4 +147,56 @@ fn a_desk_counts_the_finished_sectors(rt: HostRuntime) {
     let alloc = rt.alloc();
     let count = count_of::<Brand, Brand, HostRuntime>(&rt, alloc, Blank::new(2), Blank::new(2));
     assert_eq!(rt; count, 2);
+}
+
+// The first seat takes sector 1 and gives it back.
+fn take_and_give_back<L: Ledger, C: Ledger, R: Wait + Abort>(
+    rt: &R,
+    alloc: Global,
+    plan: &Plan,
+    desk: &Desk<SectorResult, L, C>,
+    first: &mut Seat<L, C>,
+    second: &mut Seat<L, C>,
+)
+    ensures first { KeepsParts first.old first.new }
+    ensures second { KeepsParts second.old second.new }
+{
+    next_result(rt, alloc, plan, desk, first, 1);
+    wait_for_the_first(rt, desk, second);
+    assert!(rt; desk.locked.lock(rt).give_back(first, Sector(1)).is_ok());
+}
+
+// A relay whose sector 1 was taken and given back at a desk of two seats, and how many sectors the desk counts.
+fn given_back<L: Ledger, C: Ledger, R: Wait + Abort>(
+    rt: &R,
+    alloc: Global,
+    plan: &Plan,
+    finishes: Blank,
+    closings: Blank,
+) -> (RelayState<SectorResult>, u64)
+    requires finishes { (finishes.name ≡ L.name) × (finishes.parts ≡ L.parts) × (L.parts ≡ 2) }
+    requires closings { (closings.name ≡ C.name) × (closings.parts ≡ C.parts) × (C.parts ≡ 2) }
+{
+    let relay = opened(alloc, plan).ok().expect(rt, "memory");
+    let desk = Desk::<SectorResult, L, C>::open(alloc, relay, 2, finishes, closings);
+    let Opened { desk, mut seats } = desk.ok().expect(rt, "memory");
+    let (first, rest) = seats.as_mut_slice().split_at_mut(1);
+    take_and_give_back(rt, alloc, plan, &desk, &mut first[0], &mut rest[0]);
+    desk.into_state(seats)
+}
+
+#[test]
+fn the_main_thread_works_what_was_given_back(rt: HostRuntime) {
+    let alloc = rt.alloc();
+    let plan = plan_of(&rt, alloc, QUAD);
+    let (relay, count) = given_back::<Brand, Brand, HostRuntime>(
+        &rt,
+        alloc,
+        &plan,
+        Blank::new(2),
+        Blank::new(2),
+    );
+    assert_eq!(rt; count, 0);
+    let done = finish_alone(alloc, &plan, relay).ok().expect(&rt, "memory");
+    assert!(rt; closes(&rt, alloc, &done, QUAD_SYSTEM));
 }
