@@ -6,6 +6,8 @@ mod bases;
 #[cfg(test)]
 mod candidates;
 #[cfg(test)]
+mod cuts;
+#[cfg(test)]
 mod families;
 #[cfg(test)]
 mod fixtures;
