@@ -4,6 +4,7 @@ pub mod Probes
 pub mod OfIdentity
 pub mod OfBasis
 pub mod OfPlain
+pub mod OfCut
 pub mod Commands
 pub mod Told
 pub mod Exact

@@ -1,5 +1,5 @@
 -- Each list of words means what it means without the first `--`.
-use Rattle.std.proofs.Common.{◌≡◌, ◌∙◌, ℕ, Bool, true, false, refl, sym, ap, subst, List, [], ◌∷◌, Option, Some, None, codes, length, nat_le}
+use Rattle.std.proofs.Common.{◌≡◌, ◌∙◌, ℕ, Bool, true, false, cond, refl, sym, ap, subst, List, [], ◌∷◌, Option, Some, None, codes, length, nat_le}
 use Rattle.std.proofs.lemmas.Slice.Eq.{bytes_eq-Decides}
 use Rattle.std.proofs.Math.Bool.{and-false}
 use Rattle.std.specs.Str.{bytes_eq}
@@ -9,7 +9,8 @@ use Rattle.clap.specs.Faults.{walk_fault}
 use Rattle.clap.proofs.OnLiterals.{clap_on_literals}
 use Rattle.commands.specs.Words.{alone, with_number, command_of, is_number, number_in}
 use Rattle.commands.specs.WordLists.{listed, without_mark}
-use Rattle.commands.specs.declared.words.Command.TheVariants.{Identity, Basis, Plain}
+use Rattle.commands.specs.declared.words.Command.{Command}
+use Rattle.commands.specs.declared.words.Command.TheVariants.{Identity, Basis, Plain, Cut}
 use Rattle.commands.proofs.Walks.{rules, at, comes, blocked, passed, from_start, cond_same}
 use Rattle.commands.proofs.WordSorts.{mark, Sort, Starts, IsPlain, is_mark, is_plain, is_unknown, is_workers, sort_of}
 use Rattle.commands.proofs.WorkersWalks.{unknown_comes, workers_come}
@@ -94,7 +95,8 @@ unfolding number_in
 no_number number s = rw (s.is, and-false (nat_le (length (45 ∷ s.rest)) 4), and-false (nat_le 1 (length (45 ∷ s.rest)))) refl
 
 number_dashed : (word number : Text) → Starts number → with_number word number ≡ None
-number_dashed word number s = rw (no_number number s) (cond_same (bytes_eq word (codes "basis")) None)
+number_dashed word number s =
+    rw (no_number number s) (ap (λ (other : Option Command). cond (bytes_eq word (codes "basis")) None other) (cond_same (bytes_eq word (codes "cut")) None) ∙ cond_same (bytes_eq word (codes "basis")) None)
 
 listed_dashed : (word : Text) (words : List Text) → Starts word → listed (word ∷ words) ≡ None
 listed_dashed word [] s = alone_dashed word s
@@ -152,6 +154,9 @@ number_is number digits = rw digits refl
 
 pub basis_is : (number : Text) → is_number number ≡ true → command_of (codes "basis" ∷ number ∷ []) ≡ Some (Basis (digits_value 10 number))
 basis_is number digits = reads_lists (codes "basis" ∷ number ∷ []) ∙ rw (number_apart number _ refl digits, number_is number digits) refl
+
+pub cut_is : (number : Text) → is_number number ≡ true → command_of (codes "cut" ∷ number ∷ []) ≡ Some (Cut (digits_value 10 number))
+cut_is number digits = reads_lists (codes "cut" ∷ number ∷ []) ∙ rw (number_apart number _ refl digits, number_is number digits) refl
 
 pub identity_is : command_of (codes "identity" ∷ []) ≡ Some Identity
 identity_is = reads_lists (codes "identity" ∷ [])

@@ -15,6 +15,9 @@ use Rattle.sector_module.proofs.OneBasis.{one_basis}
 use Rattle.system_text.specs.declared.value.SectorBlock.{SectorBlock}
 use Rattle.system_text.specs.Systems.{block_text, system_text}
 use Rattle.neat_system.proofs.OneSystem.{one_system}
+use Rattle.cut_family.specs.Lifting.{lifted_system}
+use Rattle.system_text.specs.declared.value.System.{System}
+use Rattle.commands.proofs.OfCut.{one_cut_system}
 use Rattle.commands.proofs.Probes.{same_probe}
 
 pub one_text : OneText
@@ -35,3 +38,6 @@ one_text (command.Basis number) input family text other is first second =
 one_text command.Plain input family text other is first second =
     let limits = accepted_within (need_of command.Plain) input family is in
     first.is ∙ ap system_text (one_system family limits first.of.system second.of.system first.of.is_system second.of.is_system) ∙ sym second.is
+one_text (command.Cut number) input family text other is first second =
+    let limits = accepted_within (need_of (command.Cut number)) input family is in
+    first.is ∙ ap (λ (s : System). system_text (lifted_system family.n number s)) (one_cut_system family number limits first.of second.of) ∙ sym second.is

@@ -8,6 +8,7 @@ use Rattle.family_file.specs.declared.need.Need.TheVariants as needs
 use Rattle.family.specs.FamilyData.{FamilyData}
 use Rattle.commands.specs.Answers.{IsAnswer}
 use Rattle.commands.specs.Basis.{IsBasisText, IsRunDone, RefusesBasis}
+use Rattle.commands.specs.Cut.{HasCutSystem, IsCutText, RefusesCut}
 use Rattle.commands.specs.Identity.{IsIdentityText, MeetsProbe, RefusesIdentity}
 use Rattle.commands.specs.Output.{AppendsFront}
 use Rattle.commands.specs.Plain.{HasSystem, IsSystemText, RefusesPlain}
@@ -22,18 +23,21 @@ abbrev pub need_of : Command → Need
 need_of command.Identity = needs.Probe
 need_of (command.Basis number) = needs.Sector number
 need_of command.Plain = needs.Family
+need_of (command.Cut number) = needs.Sector number
 
 -- the text that a command writes of a family
 abbrev pub IsTextOf : Command → FamilyData → List ℕ → Type 0
 IsTextOf command.Identity family text = IsIdentityText family text
 IsTextOf (command.Basis number) family text = IsBasisText family number text
 IsTextOf command.Plain family text = IsSystemText family text
+IsTextOf (command.Cut number) family text = IsCutText family number text
 
 -- the statuses by which a command refuses a family
 abbrev pub Refuses : Command → FamilyData → Status → Type 0
 Refuses command.Identity family status = RefusesIdentity family status
 Refuses (command.Basis number) family status = RefusesBasis family number status
 Refuses command.Plain family status = RefusesPlain family status
+Refuses (command.Cut number) family status = RefusesCut family number status
 
 -- a status by which the file or the command refuses
 abbrev pub IsRefused : Command → Result FamilyData FileFault → Status → Type 0
@@ -49,6 +53,7 @@ abbrev pub Accepts : Command → FamilyData → Type 0
 Accepts command.Identity family = MeetsProbe family
 Accepts (command.Basis number) family = IsRunDone family number
 Accepts command.Plain family = HasSystem family
+Accepts (command.Cut number) family = HasCutSystem family number
 
 -- What a status tells of what the file gives, and of the bytes that the sink took.
 abbrev pub Tells : Command → Result FamilyData FileFault → Option (List ℕ) → Option (List ℕ) → Status → Type 0

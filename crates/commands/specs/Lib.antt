@@ -10,5 +10,6 @@ pub mod Answers
 pub mod Identity
 pub mod Basis
 pub mod Plain
+pub mod Cut
 pub mod Causes
 pub mod OneText

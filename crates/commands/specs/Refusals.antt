@@ -1,4 +1,5 @@
--- The refusal that a fault of the file, of its probe, of a sector's run, or of a family without a system is.
+-- The refusal that a fault of the file, of its probe, of a sector's run, of a family without a system, or of a cut is.
+use Rattle.std.specs.Prelude.{ℕ}
 use Rattle.family_file.specs.declared.fault.FamilyFault.{FamilyFault}
 use Rattle.family_file.specs.declared.fault.FamilyFault.TheVariants as file
 use Rattle.ibp_relation.specs.declared.relation.IdentityFault.{IdentityFault}
@@ -8,8 +9,11 @@ use Rattle.module_basis.specs.declared.fault.BasisFault.TheVariants as basis
 use Rattle.neat_system.specs.declared.fault.SystemFault.{SystemFault}
 use Rattle.neat_system.specs.declared.fault.SystemFault.TheVariants as system
 use Rattle.sector_lattice.specs.declared.sector.Sector.{Sector}
+use Rattle.cut_family.specs.Lifting.{lifted_sector}
+use Rattle.cut_family.specs.declared.fault.CutAnswer.{CutAnswer}
+use Rattle.cut_family.specs.declared.fault.CutAnswer.TheVariants as cut
 use Rattle.commands.specs.declared.refusal.Refusal.{Refusal}
-use Rattle.commands.specs.declared.refusal.Refusal.TheVariants.{File, NotDivisible, NotTangent, PairsSpent, DegreeOver, CandidatesOver, NoMemory}
+use Rattle.commands.specs.declared.refusal.Refusal.TheVariants.{File, NotDivisible, NotTangent, Cut, PairsSpent, DegreeOver, CandidatesOver, NoMemory}
 
 abbrev pub of_family_fault : FamilyFault → Refusal
 of_family_fault (file.File fault) = File fault
@@ -30,3 +34,14 @@ of_system_fault (system.PairsSpent sector) = PairsSpent sector
 of_system_fault (system.DegreeOver sector) = DegreeOver sector
 of_system_fault (system.CandidatesOver sector) = CandidatesOver sector
 of_system_fault system.NoMemory = NoMemory
+
+abbrev pub of_cut_answer : CutAnswer → Refusal
+of_cut_answer (cut.No fault) = Cut fault
+of_cut_answer cut.NoMemory = NoMemory
+
+-- a fault of the system of the cut family concerns the lifted sector
+abbrev pub of_lifted_fault : ℕ → ℕ → SystemFault → Refusal
+of_lifted_fault n number (system.PairsSpent sector) = PairsSpent (lifted_sector n number sector)
+of_lifted_fault n number (system.DegreeOver sector) = DegreeOver (lifted_sector n number sector)
+of_lifted_fault n number (system.CandidatesOver sector) = CandidatesOver (lifted_sector n number sector)
+of_lifted_fault n number system.NoMemory = NoMemory

@@ -2,6 +2,7 @@
 --     identity    Identity
 --     plain       Plain
 --     basis N     Basis of N's value, where N is one to four digits
+--     cut N       Cut of N's value, likewise
 -- The first `--` of a list ends the options, and counts for nothing else.
 use Rattle.std.specs.Prelude.{List, [], ◌∷◌, codes, Option, None, if◌then◌else◌}
 use Rattle.std.specs.Str.{bytes_eq}

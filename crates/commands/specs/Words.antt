@@ -3,6 +3,7 @@
 --     identity  absent                 absent
 --     basis     one to four digits     absent
 --     plain     absent                 absent
+--     cut       one to four digits     absent
 use Rattle.std.specs.Prelude.{◌&&◌, ℕ, nat_le, Bool, codes, length, List, Option, Some, None, option_map, option_and_then, if◌then◌else◌}
 use Rattle.std.specs.Char.{is_ascii_digit}
 use Rattle.std.specs.List.{list_all}
@@ -11,7 +12,7 @@ use Rattle.std.specs.Str.Parse.{digits_value}
 use Rattle.clap.specs.Walk.{Row, Text, first_of}
 use Rattle.commands.specs.Program.{rows_found}
 use Rattle.commands.specs.declared.words.Command.{Command}
-use Rattle.commands.specs.declared.words.Command.TheVariants.{Identity, Basis, Plain}
+use Rattle.commands.specs.declared.words.Command.TheVariants.{Identity, Basis, Plain, Cut}
 
 -- one to four digits
 abbrev pub is_number : Text → Bool
@@ -24,7 +25,10 @@ abbrev pub alone : Text → Option Command
 alone word = if bytes_eq word (codes "identity") then Some Identity else if bytes_eq word (codes "plain") then Some Plain else None
 
 abbrev pub with_number : Text → Text → Option Command
-with_number word number = if bytes_eq word (codes "basis") then option_map Basis (number_in number) else None
+with_number word number =
+    if bytes_eq word (codes "basis") then option_map Basis (number_in number)
+    else if bytes_eq word (codes "cut") then option_map Cut (number_in number)
+    else None
 
 -- the command of what stands at each argument
 abbrev pub command_of_parts : Option Text → Option Text → Option Text → Option Command

@@ -5,6 +5,7 @@ ghost use Rattle.family_file.specs.Family.{family_of};
 ghost use Rattle.commands.specs.Causes.{need_of, Answers};
 
 use crate::basis::basis_text;
+use crate::cut::cut_text;
 use crate::identity::identity_text;
 use crate::plain::plain_text;
 use crate::refusal::Refusal;
@@ -20,6 +21,7 @@ fn need_of(command: Command) -> Need
         Command::Identity => Need::Probe,
         Command::Basis(number) => Need::Sector(u32::from(number)),
         Command::Plain => Need::Family,
+        Command::Cut(number) => Need::Sector(u32::from(number)),
     }
 }
 
@@ -33,5 +35,6 @@ pub fn text_of(alloc: Global, command: Command, bytes: &[u8]) -> Result<Vec<u8>,
         Command::Identity => identity_text(alloc, &family),
         Command::Basis(number) => basis_text(alloc, &family, number),
         Command::Plain => plain_text(alloc, &family),
+        Command::Cut(number) => cut_text(alloc, &family, number),
     }
 }

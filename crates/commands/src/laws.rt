@@ -14,6 +14,8 @@ pub fn lists_are_commands()
     ensures plain { command_of (codes "plain" ∷ []) ≡ Some command.Plain }
     ensures basis { (number : List ℕ) → is_number number ≡ true
         → command_of (codes "basis" ∷ number ∷ []) ≡ Some (command.Basis (digits_value 10 number)) }
+    ensures cut { (number : List ℕ) → is_number number ≡ true
+        → command_of (codes "cut" ∷ number ∷ []) ≡ Some (command.Cut (digits_value 10 number)) }
     ensures every_list { (words : List (List ℕ))
         → command_of words ≡ listed (without_mark words) }
 {}

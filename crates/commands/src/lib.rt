@@ -4,6 +4,7 @@
 
 mod answer;
 mod basis;
+mod cut;
 mod identity;
 mod input;
 mod laws;

@@ -1,9 +1,10 @@
 //! Why a command refuses a file.
 
 ghost use Rattle.std.specs.Prelude.{◌≡◌};
-ghost use Rattle.commands.specs.Refusals.{of_basis_fault, of_family_fault, of_identity_fault, of_system_fault};
+ghost use Rattle.commands.specs.Refusals.{of_basis_fault, of_cut_answer, of_family_fault, of_identity_fault, of_system_fault};
 ghost use Rattle.commands.specs.declared.refusal.Refusal.TheVariants.{NoMemory as Memory};
 
+use cut_family::{CutAnswer, CutFault};
 use family_file::{FamilyFault, FileFault};
 use ibp_base::NoMemory;
 use ibp_relation::IdentityFault;
@@ -21,6 +22,8 @@ pub enum Refusal {
     NotDivisible(u8),
     /// The probe's field is not tangent.
     NotTangent,
+    /// There is no cut family.
+    Cut(CutFault),
     /// The run of the sector spends the family's pairs.
     PairsSpent(Sector),
     /// A degree of the sector's run is over the limit.
@@ -58,6 +61,17 @@ impl From<IdentityFault> for Refusal {
             IdentityFault::NotDivisible(i) => Refusal::NotDivisible(i),
             IdentityFault::NotTangent => Refusal::NotTangent,
             IdentityFault::NoMemory => Refusal::NoMemory,
+        }
+    }
+}
+
+impl From<CutAnswer> for Refusal {
+    ghost from_gives = { λ answer e. e ≡ of_cut_answer answer };
+
+    fn from(answer: CutAnswer) -> Refusal {
+        match answer {
+            CutAnswer::No(fault) => Refusal::Cut(fault),
+            CutAnswer::NoMemory => Refusal::NoMemory,
         }
     }
 }

@@ -2,11 +2,12 @@
 
 ghost use Rattle.std.specs.Prelude.{◌≡◌, ◌+◌, ◌≤◌, ◌++◌, length, take, decimal};
 ghost use Rattle.commands.specs.Statuses.{status_of, input_status, words_status};
-ghost use Rattle.commands.specs.StatusText.{code_of, message_of};
+ghost use Rattle.commands.specs.StatusText.{code_of, cut_message, message_of};
 
 use crate::input::InputFault;
 use crate::refusal::Refusal;
 use crate::words::WordsFault;
+use cut_family::CutFault;
 use family_file::FileFault;
 use itoa::Buffer;
 use sector_lattice::Sector;
@@ -37,6 +38,8 @@ pub enum Status {
     WriteFault,
     /// Memory ran out before the first byte was written.
     NoMemory,
+    /// The family has no cut family.
+    Cut(CutFault),
 }
 
 impl From<WordsFault> for Status {
@@ -69,6 +72,7 @@ impl From<Refusal> for Status {
             Refusal::File(fault) => Status::File(fault),
             Refusal::NotDivisible(i) => Status::NotDivisible(i),
             Refusal::NotTangent => Status::NotTangent,
+            Refusal::Cut(fault) => Status::Cut(fault),
             Refusal::PairsSpent(sector) => Status::PairsSpent(sector),
             Refusal::DegreeOver(sector) => Status::DegreeOver(sector),
             Refusal::CandidatesOver(sector) => Status::CandidatesOver(sector),
@@ -78,7 +82,7 @@ impl From<Refusal> for Status {
 }
 
 impl Status {
-    /// The exit status: 0 for `Done`, and from 2 to 10 for a refusal. 1 is none of the tool's.
+    /// The exit status: 0 for `Done`, and from 2 to 12 for a refusal. 1 is none of the tool's.
     pub fn code(&self) -> u8
         ensures { result ≡ code_of self.now }
     {
@@ -93,6 +97,7 @@ impl Status {
             Status::CandidatesOver(_) => 8,
             Status::WriteFault => 9,
             Status::NoMemory => 10,
+            Status::Cut(_) => 12,
         }
     }
 }
@@ -110,7 +115,7 @@ fn put(out: &mut [u8; 128], filled: usize, piece: &[u8]) -> usize
 }
 
 // Puts the bytes and then a number at the front of the buffer.
-fn put_numbered(out: &mut [u8; 128], piece: &[u8], number: u16) -> usize
+fn put_numbered(out: &mut [u8; 128], piece: &[u8], number: u32) -> usize
     requires { length piece.now ≤ 64 }
     ensures length { result ≡ length (piece.now ++ decimal number) }
     ensures text { take result out.new ≡ piece.now ++ decimal number }
@@ -118,6 +123,19 @@ fn put_numbered(out: &mut [u8; 128], piece: &[u8], number: u16) -> usize
     let mut buffer = Buffer::new();
     let filled = put(out, 0, piece);
     put(out, filled, buffer.format(number).as_bytes())
+}
+
+// Puts the message of a fault of a cut at the front of the buffer.
+fn put_cut_fault(out: &mut [u8; 128], fault: &CutFault) -> usize
+    ensures length { result ≡ length (cut_message fault.now) }
+    ensures within { result ≤ 128 }
+    ensures text { take result out.new ≡ cut_message fault.now }
+{
+    match fault {
+        CutFault::All => put(out, 0, b"cut fault all"),
+        CutFault::Zero => put(out, 0, b"cut fault zero"),
+        CutFault::Target(number) => put_numbered(out, b"cut fault target ", *number),
+    }
 }
 
 /// Puts the message of a status at the front of the buffer, without a line end, and answers its length,
@@ -132,18 +150,27 @@ pub fn status_text(status: &Status, out: &mut [u8; 128]) -> usize
         Status::Usage => put(
             out,
             0,
-            b"usage: neatibp identity | basis N | plain | system --workers W | drill N",
+            b"usage: neatibp identity | basis N | plain | system --workers W | drill N | cut N",
         ),
         Status::ReadFault => put(out, 0, b"read fault"),
-        Status::File(fault) => put_numbered(out, b"file fault F", u16::from(fault.number())),
-        Status::NotDivisible(i) => put_numbered(out, b"not divisible z", u16::from(*i)),
+        Status::File(fault) => put_numbered(out, b"file fault F", u32::from(fault.number())),
+        Status::NotDivisible(i) => put_numbered(out, b"not divisible z", u32::from(*i)),
         Status::NotTangent => put(out, 0, b"not tangent"),
-        Status::PairsSpent(sector) => put_numbered(out, b"pairs spent in sector ", sector.0),
-        Status::DegreeOver(sector) => put_numbered(out, b"degree over in sector ", sector.0),
+        Status::PairsSpent(sector) => put_numbered(
+            out,
+            b"pairs spent in sector ",
+            u32::from(sector.0),
+        ),
+        Status::DegreeOver(sector) => put_numbered(
+            out,
+            b"degree over in sector ",
+            u32::from(sector.0),
+        ),
         Status::CandidatesOver(sector) => {
-            put_numbered(out, b"candidates over in sector ", sector.0)
+            put_numbered(out, b"candidates over in sector ", u32::from(sector.0))
         }
         Status::WriteFault => put(out, 0, b"write fault"),
         Status::NoMemory => put(out, 0, b"no memory"),
+        Status::Cut(fault) => put_cut_fault(out, fault),
     }
 }

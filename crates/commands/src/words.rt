@@ -22,6 +22,8 @@ pub enum Command {
     Basis(u16),
     /// The system.
     Plain,
+    /// The system where the variables of the sector of this number are cut.
+    Cut(u16),
 }
 
 /// Why the words are no command.
@@ -112,6 +114,7 @@ fn command_of_parts(
         ("identity", None, None) => Some(Command::Identity),
         ("plain", None, None) => Some(Command::Plain),
         ("basis", Some(number), None) => Some(Command::Basis(number_in(number)?)),
+        ("cut", Some(number), None) => Some(Command::Cut(number_in(number)?)),
         _ => None,
     }
 }

@@ -1,11 +1,13 @@
 use commands::{Status, status_text};
+use cut_family::CutFault;
 use family_file::FileFault;
 use sector_lattice::Sector;
 
-const USAGE: &str = "usage: neatibp identity | basis N | plain | system --workers W | drill N";
+const USAGE: &str =
+    "usage: neatibp identity | basis N | plain | system --workers W | drill N | cut N";
 
 // Each status with its exit status and its message.
-const STATUSES: [(Status, u8, &str); 11] = [
+const STATUSES: [(Status, u8, &str); 14] = [
     (Status::Done, 0, ""),
     (Status::Usage, 2, USAGE),
     (Status::ReadFault, 3, "read fault"),
@@ -21,6 +23,13 @@ const STATUSES: [(Status, u8, &str); 11] = [
     ),
     (Status::WriteFault, 9, "write fault"),
     (Status::NoMemory, 10, "no memory"),
+    (Status::Cut(CutFault::All), 12, "cut fault all"),
+    (Status::Cut(CutFault::Zero), 12, "cut fault zero"),
+    (
+        Status::Cut(CutFault::Target(1000)),
+        12,
+        "cut fault target 1000",
+    ),
 ];
 
 #[test]

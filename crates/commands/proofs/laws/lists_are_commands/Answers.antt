@@ -1,4 +1,4 @@
-use Rattle.commands.proofs.Lists.{identity_is, plain_is, basis_is, reads_lists}
+use Rattle.commands.proofs.Lists.{identity_is, plain_is, basis_is, cut_is, reads_lists}
 use Rattle.commands.proofs.laws.lists_are_commands.Goals as goal
 
 pub returns-clause-identity : goal.returns-clause-identity
@@ -9,6 +9,9 @@ returns-clause-plain c = plain_is
 
 pub returns-clause-basis : goal.returns-clause-basis
 returns-clause-basis c = basis_is
+
+pub returns-clause-cut : goal.returns-clause-cut
+returns-clause-cut c = cut_is
 
 pub returns-clause-every_list : goal.returns-clause-every_list
 returns-clause-every_list c = reads_lists
