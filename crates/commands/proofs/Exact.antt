@@ -6,7 +6,7 @@ use Rattle.family.specs.FamilyData.{FamilyData}
 use Rattle.commands.specs.Causes.{Refuses, IsRefused, IsAnswered, Tells}
 use Rattle.commands.specs.declared.words.Command.{Command}
 use Rattle.commands.specs.declared.status.Status.{Status}
-use Rattle.commands.specs.declared.status.Status.TheVariants.{Done, Usage, ReadFault, File, NotDivisible, NotTangent, PairsSpent, DegreeOver, CandidatesOver, WriteFault, NoMemory, Cut}
+use Rattle.commands.specs.declared.status.Status.TheVariants.{Done, Usage, ReadFault, File, NotDivisible, NotTangent, PairsSpent, DegreeOver, CandidatesOver, WriteFault, NoMemory, Cut, NotSymmetric}
 use Rattle.commands.proofs.Commands.{text_accepts, not_refused, refused_once}
 
 same_fault : (x y : FileFault) → ◌≡◌ {A = Result FamilyData FileFault} (Err x) (Err y) → x ≡ y
@@ -22,6 +22,7 @@ of_family asked family before now status Usage within told refused = absurd told
 of_family asked family before now status (NotDivisible i) within told refused = inl (refused_once asked family (NotDivisible i) status within told.0 refused)
 of_family asked family before now status NotTangent within told refused = inl (refused_once asked family NotTangent status within told.0 refused)
 of_family asked family before now status (Cut fault) within told refused = inl (refused_once asked family (Cut fault) status within told.0 refused)
+of_family asked family before now status (NotSymmetric k) within told refused = inl (refused_once asked family (NotSymmetric k) status within told.0 refused)
 of_family asked family before now status (PairsSpent sector) within told refused = inl (refused_once asked family (PairsSpent sector) status within told.0 refused)
 of_family asked family before now status (DegreeOver sector) within told refused = inl (refused_once asked family (DegreeOver sector) status within told.0 refused)
 of_family asked family before now status (CandidatesOver sector) within told refused = inl (refused_once asked family (CandidatesOver sector) status within told.0 refused)
@@ -36,6 +37,7 @@ of_fault asked fault before now Usage told = absurd told
 of_fault asked fault before now (NotDivisible i) told = absurd told.0
 of_fault asked fault before now NotTangent told = absurd told.0
 of_fault asked fault before now (Cut other) told = absurd told.0
+of_fault asked fault before now (NotSymmetric k) told = absurd told.0
 of_fault asked fault before now (PairsSpent sector) told = absurd told.0
 of_fault asked fault before now (DegreeOver sector) told = absurd told.0
 of_fault asked fault before now (CandidatesOver sector) told = absurd told.0

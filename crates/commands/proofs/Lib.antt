@@ -4,7 +4,10 @@ pub mod Probes
 pub mod OfIdentity
 pub mod OfBasis
 pub mod OfPlain
+pub mod OfMeet
+pub mod MeetBlocks
 pub mod OfCut
+pub mod OfFold
 pub mod Commands
 pub mod Told
 pub mod Exact

@@ -10,7 +10,7 @@ use Rattle.clap.proofs.OnLiterals.{clap_on_literals}
 use Rattle.commands.specs.Words.{alone, with_number, command_of, is_number, number_in}
 use Rattle.commands.specs.WordLists.{listed, without_mark}
 use Rattle.commands.specs.declared.words.Command.{Command}
-use Rattle.commands.specs.declared.words.Command.TheVariants.{Identity, Basis, Plain, Cut}
+use Rattle.commands.specs.declared.words.Command.TheVariants.{Identity, Basis, Plain, Meet, Cut, Fold}
 use Rattle.commands.proofs.Walks.{rules, at, comes, blocked, passed, from_start, cond_same}
 use Rattle.commands.proofs.WordSorts.{mark, Sort, Starts, IsPlain, is_mark, is_plain, is_unknown, is_workers, sort_of}
 use Rattle.commands.proofs.WorkersWalks.{unknown_comes, workers_come}
@@ -94,9 +94,12 @@ no_number : (number : Text) → Starts number → number_in number ≡ None
 unfolding number_in
 no_number number s = rw (s.is, and-false (nat_le (length (45 ∷ s.rest)) 4), and-false (nat_le 1 (length (45 ∷ s.rest)))) refl
 
+passed_over : (test : Bool) (other : Option Command) → other ≡ None → cond test None other ≡ None
+passed_over test other none = ap (λ (o : Option Command). cond test None o) none ∙ cond_same test None
+
 number_dashed : (word number : Text) → Starts number → with_number word number ≡ None
 number_dashed word number s =
-    rw (no_number number s) (ap (λ (other : Option Command). cond (bytes_eq word (codes "basis")) None other) (cond_same (bytes_eq word (codes "cut")) None) ∙ cond_same (bytes_eq word (codes "basis")) None)
+    rw (no_number number s) (passed_over (bytes_eq word (codes "basis")) _ (passed_over (bytes_eq word (codes "meet")) _ (cond_same (bytes_eq word (codes "cut")) None)))
 
 listed_dashed : (word : Text) (words : List Text) → Starts word → listed (word ∷ words) ≡ None
 listed_dashed word [] s = alone_dashed word s
@@ -155,6 +158,9 @@ number_is number digits = rw digits refl
 pub basis_is : (number : Text) → is_number number ≡ true → command_of (codes "basis" ∷ number ∷ []) ≡ Some (Basis (digits_value 10 number))
 basis_is number digits = reads_lists (codes "basis" ∷ number ∷ []) ∙ rw (number_apart number _ refl digits, number_is number digits) refl
 
+pub meet_is : (number : Text) → is_number number ≡ true → command_of (codes "meet" ∷ number ∷ []) ≡ Some (Meet (digits_value 10 number))
+meet_is number digits = reads_lists (codes "meet" ∷ number ∷ []) ∙ rw (number_apart number _ refl digits, number_is number digits) refl
+
 pub cut_is : (number : Text) → is_number number ≡ true → command_of (codes "cut" ∷ number ∷ []) ≡ Some (Cut (digits_value 10 number))
 cut_is number digits = reads_lists (codes "cut" ∷ number ∷ []) ∙ rw (number_apart number _ refl digits, number_is number digits) refl
 
@@ -163,3 +169,6 @@ identity_is = reads_lists (codes "identity" ∷ [])
 
 pub plain_is : command_of (codes "plain" ∷ []) ≡ Some Plain
 plain_is = reads_lists (codes "plain" ∷ [])
+
+pub fold_is : command_of (codes "fold" ∷ []) ≡ Some Fold
+fold_is = reads_lists (codes "fold" ∷ [])

@@ -6,14 +6,14 @@ use Rattle.family.specs.FamilyData.{FamilyData}
 use Rattle.mono_order.specs.declared.limits.TheConstants.{RUN_DEGREE}
 use Rattle.mono_order.specs.TermOrder.{zero_dominates}
 use Rattle.module_basis.proofs.RunEnds.{RunsTo-unique}
-use Rattle.sector_module.specs.Factors.{sector_generators}
+use Rattle.sector_module.specs.Factors.{sector_generators, sector_pair_order}
 use Rattle.sector_job.specs.Outcomes.{EndsSo}
 use Rattle.commands.specs.Basis.{IsRunDone, RefusesBasis}
 use Rattle.commands.specs.declared.status.Status.{Status}
-use Rattle.commands.specs.declared.status.Status.TheVariants.{Done, Usage, ReadFault, File, NotDivisible, NotTangent, PairsSpent, DegreeOver, CandidatesOver, WriteFault, NoMemory, Cut}
+use Rattle.commands.specs.declared.status.Status.TheVariants.{Done, Usage, ReadFault, File, NotDivisible, NotTangent, PairsSpent, DegreeOver, CandidatesOver, WriteFault, NoMemory, Cut, NotSymmetric}
 
 end_once : (family : FamilyData) (number : ℕ) (first second : run.RunEnd) → EndsSo family number first → EndsSo family number second → first ≡ second
-end_once family number first second one other = RunsTo-unique zero_dominates RUN_DEGREE (sector_generators family.baikov family.n number) family.budget.pairs first second one other
+end_once family number first second one other = RunsTo-unique zero_dominates (sector_pair_order family.baikov family.n number family.budget) RUN_DEGREE (sector_generators family.baikov family.n number) family.budget.pairs first second one other
 
 spent_isn't_over : run.PairsSpent ≢ run.DegreeOver
 spent_isn't_over e = cc
@@ -29,6 +29,7 @@ basis_not_refused family number (File fault) met refused = refused
 basis_not_refused family number (NotDivisible i) met refused = refused
 basis_not_refused family number NotTangent met refused = refused
 basis_not_refused family number (Cut fault) met refused = refused
+basis_not_refused family number (NotSymmetric k) met refused = refused
 basis_not_refused family number (PairsSpent sector) met refused = let e = end_once family number _ _ met.ends refused.1 in cc
 basis_not_refused family number (DegreeOver sector) met refused = let e = end_once family number _ _ met.ends refused.1 in cc
 basis_not_refused family number (CandidatesOver sector) met refused = refused
@@ -43,6 +44,7 @@ once_spent family number sector (File fault) one refused = absurd refused
 once_spent family number sector (NotDivisible i) one refused = absurd refused
 once_spent family number sector NotTangent one refused = absurd refused
 once_spent family number sector (Cut fault) one refused = absurd refused
+once_spent family number sector (NotSymmetric k) one refused = absurd refused
 once_spent family number sector (PairsSpent other) one refused = ap PairsSpent (sector_numbered sector other number one.0 refused.0)
 once_spent family number sector (DegreeOver other) one refused = absurd (spent_isn't_over (end_once family number _ _ one.1 refused.1))
 once_spent family number sector (CandidatesOver other) one refused = absurd refused
@@ -57,6 +59,7 @@ once_over family number sector (File fault) one refused = absurd refused
 once_over family number sector (NotDivisible i) one refused = absurd refused
 once_over family number sector NotTangent one refused = absurd refused
 once_over family number sector (Cut fault) one refused = absurd refused
+once_over family number sector (NotSymmetric k) one refused = absurd refused
 once_over family number sector (PairsSpent other) one refused = absurd (spent_isn't_over (end_once family number _ _ refused.1 one.1))
 once_over family number sector (DegreeOver other) one refused = ap DegreeOver (sector_numbered sector other number one.0 refused.0)
 once_over family number sector (CandidatesOver other) one refused = absurd refused
@@ -71,6 +74,7 @@ basis_once family number (File fault) second refused also = absurd refused
 basis_once family number (NotDivisible i) second refused also = absurd refused
 basis_once family number NotTangent second refused also = absurd refused
 basis_once family number (Cut fault) second refused also = absurd refused
+basis_once family number (NotSymmetric k) second refused also = absurd refused
 basis_once family number (PairsSpent sector) second refused also = once_spent family number sector second refused also
 basis_once family number (DegreeOver sector) second refused also = once_over family number sector second refused also
 basis_once family number (CandidatesOver sector) second refused also = absurd refused

@@ -13,10 +13,13 @@ use Rattle.commands.specs.declared.words.Command.TheVariants as command
 use Rattle.family.specs.declared.parts.StrippedField.{StrippedField}
 use Rattle.sector_module.proofs.OneBasis.{one_basis}
 use Rattle.system_text.specs.declared.value.SectorBlock.{SectorBlock}
-use Rattle.system_text.specs.Systems.{block_text, system_text}
+use Rattle.system_text.specs.Systems.{block_text, fold_text, system_text}
 use Rattle.neat_system.proofs.OneSystem.{one_system}
 use Rattle.cut_family.specs.Lifting.{lifted_system}
 use Rattle.system_text.specs.declared.value.System.{System}
+use Rattle.symmetry_fold.specs.Folding.{IsFolded}
+use Rattle.symmetry_fold.proofs.OneFold.{one_fold}
+use Rattle.commands.proofs.OfMeet.{one_meet_text}
 use Rattle.commands.proofs.OfCut.{one_cut_system}
 use Rattle.commands.proofs.Probes.{same_probe}
 
@@ -38,6 +41,12 @@ one_text (command.Basis number) input family text other is first second =
 one_text command.Plain input family text other is first second =
     let limits = accepted_within (need_of command.Plain) input family is in
     first.is ∙ ap system_text (one_system family limits first.of.system second.of.system first.of.is_system second.of.is_system) ∙ sym second.is
+one_text (command.Meet number) input family text other is first second = one_meet_text family number text other (accepted_within (need_of (command.Meet number)) input family is) first second
 one_text (command.Cut number) input family text other is first second =
     let limits = accepted_within (need_of (command.Cut number)) input family is in
     first.is ∙ ap (λ (s : System). system_text (lifted_system family.n number s)) (one_cut_system family number limits first.of second.of) ∙ sym second.is
+one_text command.Fold input family text other is first second =
+    let limits = accepted_within (need_of command.Fold) input family is in
+    let same : second.of.system ≡ first.of.system = one_system family limits second.of.system first.of.system second.of.is_system first.of.is_system in
+    let moved : IsFolded family first.of.system second.folded = subst (λ (s : System). IsFolded family s second.folded) same second.is_folded in
+    first.is ∙ ap fold_text (one_fold family first.of.system first.folded second.folded first.is_folded moved) ∙ sym second.is

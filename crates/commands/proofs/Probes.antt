@@ -60,6 +60,9 @@ has_needed_probe bytes family is = (accepted_needs needs.Probe bytes family is).
 pub has_needed_sector : (number : ℕ) (bytes : List ℕ) (family : FamilyData) → family_of (need_of (command.Basis number)) bytes ≡ Ok family → number < 2 ^ family.n
 has_needed_sector number bytes family is = (accepted_needs (needs.Sector number) bytes family is).sector number refl
 
+pub has_meet_sector : (number : ℕ) (bytes : List ℕ) (family : FamilyData) → family_of (need_of (command.Meet number)) bytes ≡ Ok family → number < 2 ^ family.n
+has_meet_sector number bytes family is = (accepted_needs (needs.Sector number) bytes family is).sector number refl
+
 pub has_cut_sector : (number : ℕ) (bytes : List ℕ) (family : FamilyData) → family_of (need_of (command.Cut number)) bytes ≡ Ok family → number < 2 ^ family.n
 has_cut_sector number bytes family is = (accepted_needs (needs.Sector number) bytes family is).sector number refl
 

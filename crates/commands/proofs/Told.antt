@@ -40,7 +40,9 @@ no_fault : (asked : Command) (family : FamilyData) (fault : FileFault) → Refus
 no_fault command.Identity family fault refused = refused
 no_fault (command.Basis number) family fault refused = refused
 no_fault command.Plain family fault refused = refused
+no_fault (command.Meet number) family fault refused = refused
 no_fault (command.Cut number) family fault refused = refused
+no_fault command.Fold family fault refused = refused
 
 pub told_refusal : (r : Refusal) (asked : Command) (given : Result FamilyData FileFault) (known : Option (List ℕ)) → Answers asked given (Err r) → Tells asked given known known (status_of r)
 told_refusal refusal.NoMemory asked given known failed = Keeps-same known
@@ -48,6 +50,7 @@ told_refusal (refusal.File fault) asked (Ok family) known failed = absurd (no_fa
 told_refusal (refusal.NotDivisible i) asked (Ok family) known failed = (failed, Keeps-same known)
 told_refusal refusal.NotTangent asked (Ok family) known failed = (failed, Keeps-same known)
 told_refusal (refusal.Cut fault) asked (Ok family) known failed = (failed, Keeps-same known)
+told_refusal (refusal.NotSymmetric k) asked (Ok family) known failed = (failed, Keeps-same known)
 told_refusal (refusal.PairsSpent sector) asked (Ok family) known failed = (failed, Keeps-same known)
 told_refusal (refusal.DegreeOver sector) asked (Ok family) known failed = (failed, Keeps-same known)
 told_refusal (refusal.CandidatesOver sector) asked (Ok family) known failed = (failed, Keeps-same known)
@@ -55,6 +58,7 @@ told_refusal (refusal.File fault) asked (Err other) known failed = (cc, Keeps-sa
 told_refusal (refusal.NotDivisible i) asked (Err other) known failed = absurd (cc)
 told_refusal refusal.NotTangent asked (Err other) known failed = absurd (cc)
 told_refusal (refusal.Cut fault) asked (Err other) known failed = absurd (cc)
+told_refusal (refusal.NotSymmetric k) asked (Err other) known failed = absurd (cc)
 told_refusal (refusal.PairsSpent sector) asked (Err other) known failed = absurd (cc)
 told_refusal (refusal.DegreeOver sector) asked (Err other) known failed = absurd (cc)
 told_refusal (refusal.CandidatesOver sector) asked (Err other) known failed = absurd (cc)
@@ -67,6 +71,7 @@ refused (refusal.File fault) asked (Ok family) limits failed meets = absurd (no_
 refused (refusal.NotDivisible i) asked (Ok family) limits failed meets = absurd (not_refused asked family (status.NotDivisible i) (limits family refl) meets failed)
 refused refusal.NotTangent asked (Ok family) limits failed meets = absurd (not_refused asked family status.NotTangent (limits family refl) meets failed)
 refused (refusal.Cut fault) asked (Ok family) limits failed meets = absurd (not_refused asked family (status.Cut fault) (limits family refl) meets failed)
+refused (refusal.NotSymmetric k) asked (Ok family) limits failed meets = absurd (not_refused asked family (status.NotSymmetric k) (limits family refl) meets failed)
 refused (refusal.PairsSpent sector) asked (Ok family) limits failed meets = absurd (not_refused asked family (status.PairsSpent sector) (limits family refl) meets failed)
 refused (refusal.DegreeOver sector) asked (Ok family) limits failed meets = absurd (not_refused asked family (status.DegreeOver sector) (limits family refl) meets failed)
 refused (refusal.CandidatesOver sector) asked (Ok family) limits failed meets = absurd (not_refused asked family (status.CandidatesOver sector) (limits family refl) meets failed)

@@ -9,8 +9,10 @@ use Rattle.family.specs.FamilyData.{FamilyData}
 use Rattle.commands.specs.Answers.{IsAnswer}
 use Rattle.commands.specs.Basis.{IsBasisText, IsRunDone, RefusesBasis}
 use Rattle.commands.specs.Cut.{HasCutSystem, IsCutText, RefusesCut}
+use Rattle.commands.specs.Fold.{HasFold, IsFoldText, RefusesFold}
 use Rattle.commands.specs.Identity.{IsIdentityText, MeetsProbe, RefusesIdentity}
 use Rattle.commands.specs.Output.{AppendsFront}
+use Rattle.commands.specs.Meet.{HasMeet, IsMeetText, RefusesMeet}
 use Rattle.commands.specs.Plain.{HasSystem, IsSystemText, RefusesPlain}
 use Rattle.commands.specs.declared.words.Command.{Command}
 use Rattle.commands.specs.declared.words.Command.TheVariants as command
@@ -23,21 +25,27 @@ abbrev pub need_of : Command → Need
 need_of command.Identity = needs.Probe
 need_of (command.Basis number) = needs.Sector number
 need_of command.Plain = needs.Family
+need_of (command.Meet number) = needs.Sector number
 need_of (command.Cut number) = needs.Sector number
+need_of command.Fold = needs.Family
 
 -- the text that a command writes of a family
 abbrev pub IsTextOf : Command → FamilyData → List ℕ → Type 0
 IsTextOf command.Identity family text = IsIdentityText family text
 IsTextOf (command.Basis number) family text = IsBasisText family number text
 IsTextOf command.Plain family text = IsSystemText family text
+IsTextOf (command.Meet number) family text = IsMeetText family number text
 IsTextOf (command.Cut number) family text = IsCutText family number text
+IsTextOf command.Fold family text = IsFoldText family text
 
 -- the statuses by which a command refuses a family
 abbrev pub Refuses : Command → FamilyData → Status → Type 0
 Refuses command.Identity family status = RefusesIdentity family status
 Refuses (command.Basis number) family status = RefusesBasis family number status
 Refuses command.Plain family status = RefusesPlain family status
+Refuses (command.Meet number) family status = RefusesMeet family number status
 Refuses (command.Cut number) family status = RefusesCut family number status
+Refuses command.Fold family status = RefusesFold family status
 
 -- a status by which the file or the command refuses
 abbrev pub IsRefused : Command → Result FamilyData FileFault → Status → Type 0
@@ -53,7 +61,9 @@ abbrev pub Accepts : Command → FamilyData → Type 0
 Accepts command.Identity family = MeetsProbe family
 Accepts (command.Basis number) family = IsRunDone family number
 Accepts command.Plain family = HasSystem family
+Accepts (command.Meet number) family = HasMeet family number
 Accepts (command.Cut number) family = HasCutSystem family number
+Accepts command.Fold family = HasFold family
 
 -- What a status tells of what the file gives, and of the bytes that the sink took.
 abbrev pub Tells : Command → Result FamilyData FileFault → Option (List ℕ) → Option (List ℕ) → Status → Type 0

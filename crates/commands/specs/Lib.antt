@@ -10,6 +10,8 @@ pub mod Answers
 pub mod Identity
 pub mod Basis
 pub mod Plain
+pub mod Meet
 pub mod Cut
+pub mod Fold
 pub mod Causes
 pub mod OneText

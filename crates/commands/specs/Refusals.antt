@@ -1,4 +1,4 @@
--- The refusal that a fault of the file, of its probe, of a sector's run, of a family without a system, or of a cut is.
+-- The refusal that a fault of the file, of its probe, of a sector's run, of a family without a system, of a cut or of a fold is.
 use Rattle.std.specs.Prelude.{ℕ}
 use Rattle.family_file.specs.declared.fault.FamilyFault.{FamilyFault}
 use Rattle.family_file.specs.declared.fault.FamilyFault.TheVariants as file
@@ -12,8 +12,10 @@ use Rattle.sector_lattice.specs.declared.sector.Sector.{Sector}
 use Rattle.cut_family.specs.Lifting.{lifted_sector}
 use Rattle.cut_family.specs.declared.fault.CutAnswer.{CutAnswer}
 use Rattle.cut_family.specs.declared.fault.CutAnswer.TheVariants as cut
+use Rattle.symmetry_fold.specs.declared.fault.FoldFault.{FoldFault}
+use Rattle.symmetry_fold.specs.declared.fault.FoldFault.TheVariants as fold
 use Rattle.commands.specs.declared.refusal.Refusal.{Refusal}
-use Rattle.commands.specs.declared.refusal.Refusal.TheVariants.{File, NotDivisible, NotTangent, Cut, PairsSpent, DegreeOver, CandidatesOver, NoMemory}
+use Rattle.commands.specs.declared.refusal.Refusal.TheVariants.{File, NotDivisible, NotTangent, Cut, NotSymmetric, PairsSpent, DegreeOver, CandidatesOver, NoMemory}
 
 abbrev pub of_family_fault : FamilyFault → Refusal
 of_family_fault (file.File fault) = File fault
@@ -38,6 +40,10 @@ of_system_fault system.NoMemory = NoMemory
 abbrev pub of_cut_answer : CutAnswer → Refusal
 of_cut_answer (cut.No fault) = Cut fault
 of_cut_answer cut.NoMemory = NoMemory
+
+abbrev pub of_fold_fault : FoldFault → Refusal
+of_fold_fault (fold.NotSymmetric k) = NotSymmetric k
+of_fold_fault fold.NoMemory = NoMemory
 
 -- a fault of the system of the cut family concerns the lifted sector
 abbrev pub of_lifted_fault : ℕ → ℕ → SystemFault → Refusal

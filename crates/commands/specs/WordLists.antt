@@ -2,7 +2,9 @@
 --     identity    Identity
 --     plain       Plain
 --     basis N     Basis of N's value, where N is one to four digits
+--     meet N      Meet of N's value, likewise
 --     cut N       Cut of N's value, likewise
+--     fold        Fold
 -- The first `--` of a list ends the options, and counts for nothing else.
 use Rattle.std.specs.Prelude.{List, [], ◌∷◌, codes, Option, None, if◌then◌else◌}
 use Rattle.std.specs.Str.{bytes_eq}

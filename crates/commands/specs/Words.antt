@@ -3,7 +3,9 @@
 --     identity  absent                 absent
 --     basis     one to four digits     absent
 --     plain     absent                 absent
+--     meet      one to four digits     absent
 --     cut       one to four digits     absent
+--     fold      absent                 absent
 use Rattle.std.specs.Prelude.{◌&&◌, ℕ, nat_le, Bool, codes, length, List, Option, Some, None, option_map, option_and_then, if◌then◌else◌}
 use Rattle.std.specs.Char.{is_ascii_digit}
 use Rattle.std.specs.List.{list_all}
@@ -12,7 +14,7 @@ use Rattle.std.specs.Str.Parse.{digits_value}
 use Rattle.clap.specs.Walk.{Row, Text, first_of}
 use Rattle.commands.specs.Program.{rows_found}
 use Rattle.commands.specs.declared.words.Command.{Command}
-use Rattle.commands.specs.declared.words.Command.TheVariants.{Identity, Basis, Plain, Cut}
+use Rattle.commands.specs.declared.words.Command.TheVariants.{Identity, Basis, Plain, Meet, Cut, Fold}
 
 -- one to four digits
 abbrev pub is_number : Text → Bool
@@ -22,11 +24,16 @@ unfoldable pub number_in : Text → Option ℕ
 number_in word = if is_number word then Some (digits_value 10 word) else None
 
 abbrev pub alone : Text → Option Command
-alone word = if bytes_eq word (codes "identity") then Some Identity else if bytes_eq word (codes "plain") then Some Plain else None
+alone word =
+    if bytes_eq word (codes "identity") then Some Identity
+    else if bytes_eq word (codes "plain") then Some Plain
+    else if bytes_eq word (codes "fold") then Some Fold
+    else None
 
 abbrev pub with_number : Text → Text → Option Command
 with_number word number =
     if bytes_eq word (codes "basis") then option_map Basis (number_in number)
+    else if bytes_eq word (codes "meet") then option_map Meet (number_in number)
     else if bytes_eq word (codes "cut") then option_map Cut (number_in number)
     else None
 

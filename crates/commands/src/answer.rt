@@ -6,7 +6,9 @@ ghost use Rattle.commands.specs.Causes.{need_of, Answers};
 
 use crate::basis::basis_text;
 use crate::cut::cut_text;
+use crate::fold::folded_text;
 use crate::identity::identity_text;
+use crate::meet::meet_text;
 use crate::plain::plain_text;
 use crate::refusal::Refusal;
 use crate::words::Command;
@@ -21,7 +23,9 @@ fn need_of(command: Command) -> Need
         Command::Identity => Need::Probe,
         Command::Basis(number) => Need::Sector(u32::from(number)),
         Command::Plain => Need::Family,
+        Command::Meet(number) => Need::Sector(u32::from(number)),
         Command::Cut(number) => Need::Sector(u32::from(number)),
+        Command::Fold => Need::Family,
     }
 }
 
@@ -35,6 +39,8 @@ pub fn text_of(alloc: Global, command: Command, bytes: &[u8]) -> Result<Vec<u8>,
         Command::Identity => identity_text(alloc, &family),
         Command::Basis(number) => basis_text(alloc, &family, number),
         Command::Plain => plain_text(alloc, &family),
+        Command::Meet(number) => meet_text(alloc, &family, number),
         Command::Cut(number) => cut_text(alloc, &family, number),
+        Command::Fold => folded_text(alloc, &family),
     }
 }

@@ -14,8 +14,11 @@ pub fn lists_are_commands()
     ensures plain { command_of (codes "plain" ∷ []) ≡ Some command.Plain }
     ensures basis { (number : List ℕ) → is_number number ≡ true
         → command_of (codes "basis" ∷ number ∷ []) ≡ Some (command.Basis (digits_value 10 number)) }
+    ensures meet { (number : List ℕ) → is_number number ≡ true
+        → command_of (codes "meet" ∷ number ∷ []) ≡ Some (command.Meet (digits_value 10 number)) }
     ensures cut { (number : List ℕ) → is_number number ≡ true
         → command_of (codes "cut" ∷ number ∷ []) ≡ Some (command.Cut (digits_value 10 number)) }
+    ensures fold { command_of (codes "fold" ∷ []) ≡ Some command.Fold }
     ensures every_list { (words : List (List ℕ))
         → command_of words ≡ listed (without_mark words) }
 {}

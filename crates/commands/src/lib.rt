@@ -5,9 +5,11 @@
 mod answer;
 mod basis;
 mod cut;
+mod fold;
 mod identity;
 mod input;
 mod laws;
+mod meet;
 mod output;
 mod plain;
 mod refusal;

@@ -1,7 +1,7 @@
 //! Why a command refuses a file.
 
 ghost use Rattle.std.specs.Prelude.{◌≡◌};
-ghost use Rattle.commands.specs.Refusals.{of_basis_fault, of_cut_answer, of_family_fault, of_identity_fault, of_system_fault};
+ghost use Rattle.commands.specs.Refusals.{of_basis_fault, of_cut_answer, of_family_fault, of_fold_fault, of_identity_fault, of_system_fault};
 ghost use Rattle.commands.specs.declared.refusal.Refusal.TheVariants.{NoMemory as Memory};
 
 use cut_family::{CutAnswer, CutFault};
@@ -11,12 +11,13 @@ use ibp_relation::IdentityFault;
 use module_basis::BasisFault;
 use neat_system::SystemFault;
 use sector_lattice::Sector;
+use symmetry_fold::FoldFault;
 
 /// Why a command writes no text of a file: what the calls of the crates below answer, with the sector that
 /// it concerns.
 #[derive(Clone, Copy, Debug, PartialEq, Eq)]
 pub enum Refusal {
-    /// The file has a fault, the first of F1 to F14 that holds.
+    /// The file has a fault, the first of F1 to F15 that holds.
     File(FileFault),
     /// The variable of this number, counted from 1, does not divide its polynomial of the probe's field.
     NotDivisible(u8),
@@ -24,6 +25,8 @@ pub enum Refusal {
     NotTangent,
     /// There is no cut family.
     Cut(CutFault),
+    /// The permutation of this number, counted from 1, is the first that is not a symmetry.
+    NotSymmetric(u32),
     /// The run of the sector spends the family's pairs.
     PairsSpent(Sector),
     /// A degree of the sector's run is over the limit.
@@ -72,6 +75,17 @@ impl From<CutAnswer> for Refusal {
         match answer {
             CutAnswer::No(fault) => Refusal::Cut(fault),
             CutAnswer::NoMemory => Refusal::NoMemory,
+        }
+    }
+}
+
+impl From<FoldFault> for Refusal {
+    ghost from_gives = { λ fault e. e ≡ of_fold_fault fault };
+
+    fn from(fault: FoldFault) -> Refusal {
+        match fault {
+            FoldFault::NotSymmetric(number) => Refusal::NotSymmetric(number),
+            FoldFault::NoMemory => Refusal::NoMemory,
         }
     }
 }

@@ -40,6 +40,8 @@ pub enum Status {
     NoMemory,
     /// The family has no cut family.
     Cut(CutFault),
+    /// The permutation of this number, counted from 1, is the first that is not a symmetry of the family.
+    NotSymmetric(u32),
 }
 
 impl From<WordsFault> for Status {
@@ -73,6 +75,7 @@ impl From<Refusal> for Status {
             Refusal::NotDivisible(i) => Status::NotDivisible(i),
             Refusal::NotTangent => Status::NotTangent,
             Refusal::Cut(fault) => Status::Cut(fault),
+            Refusal::NotSymmetric(number) => Status::NotSymmetric(number),
             Refusal::PairsSpent(sector) => Status::PairsSpent(sector),
             Refusal::DegreeOver(sector) => Status::DegreeOver(sector),
             Refusal::CandidatesOver(sector) => Status::CandidatesOver(sector),
@@ -82,7 +85,7 @@ impl From<Refusal> for Status {
 }
 
 impl Status {
-    /// The exit status: 0 for `Done`, and from 2 to 12 for a refusal. 1 is none of the tool's.
+    /// The exit status: 0 for `Done`, and from 2 to 13 for a refusal. 1 is none of the tool's.
     pub fn code(&self) -> u8
         ensures { result ≡ code_of self.now }
     {
@@ -98,6 +101,7 @@ impl Status {
             Status::WriteFault => 9,
             Status::NoMemory => 10,
             Status::Cut(_) => 12,
+            Status::NotSymmetric(_) => 13,
         }
     }
 }
@@ -150,7 +154,7 @@ pub fn status_text(status: &Status, out: &mut [u8; 128]) -> usize
         Status::Usage => put(
             out,
             0,
-            b"usage: neatibp identity | basis N | plain | system --workers W | drill N | cut N",
+            b"usage: neatibp identity | basis N | plain | system --workers W | drill N | meet N | cut N | fold",
         ),
         Status::ReadFault => put(out, 0, b"read fault"),
         Status::File(fault) => put_numbered(out, b"file fault F", u32::from(fault.number())),
@@ -172,5 +176,6 @@ pub fn status_text(status: &Status, out: &mut [u8; 128]) -> usize
         Status::WriteFault => put(out, 0, b"write fault"),
         Status::NoMemory => put(out, 0, b"no memory"),
         Status::Cut(fault) => put_cut_fault(out, fault),
+        Status::NotSymmetric(number) => put_numbered(out, b"not symmetric ", *number),
     }
 }

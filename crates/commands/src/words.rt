@@ -22,8 +22,13 @@ pub enum Command {
     Basis(u16),
     /// The system.
     Plain,
+    /// The reduced bases of the proper supersectors of the sector of this number and of itself, from one tangent
+    /// module.
+    Meet(u16),
     /// The system where the variables of the sector of this number are cut.
     Cut(u16),
+    /// The folded system.
+    Fold,
 }
 
 /// Why the words are no command.
@@ -114,7 +119,9 @@ fn command_of_parts(
         ("identity", None, None) => Some(Command::Identity),
         ("plain", None, None) => Some(Command::Plain),
         ("basis", Some(number), None) => Some(Command::Basis(number_in(number)?)),
+        ("meet", Some(number), None) => Some(Command::Meet(number_in(number)?)),
         ("cut", Some(number), None) => Some(Command::Cut(number_in(number)?)),
+        ("fold", None, None) => Some(Command::Fold),
         _ => None,
     }
 }

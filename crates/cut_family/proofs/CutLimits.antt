@@ -1,5 +1,5 @@
 -- A cut family keeps the limits of families.
-use Rattle.std.proofs.Common.{◌≡◌, ◌≢◌, ℕ, ◌+◌, ◌-◌, ◌^◌, ◌<◌, ◌≤◌, List, [], length, sum, filter, sym, ◌∙◌, subst, arith}
+use Rattle.std.proofs.Common.{◌≡◌, ◌≢◌, ℕ, ◌+◌, ◌-◌, ◌^◌, ◌<◌, ◌≤◌, List, [], length, sum, filter, refl, sym, ◌∙◌, subst, arith}
 use Rattle.std.specs.Prelude.{ℤ, count_ones, Option, None}
 use Rattle.std.proofs.lemmas.List.{length-map}
 use Rattle.ibp_base.proofs.Members.{All-each}
@@ -37,10 +37,10 @@ read_cut n cut p small h few =
     (keys_moved (λ m. sum m ≤ DEGREE_LIMIT) Small (cut_exponents cut) (small_moved cut) kept (AllKeys-strike (λ m. sum m ≤ DEGREE_LIMIT) (meets_cut cut) p h.degree_within))
     (omega (arith, normal_form_length (map_keys (cut_exponents cut) kept), length-map {B = List ℕ × ℕ} kept (λ term. (cut_exponents cut term.0, term.1)), strike_length (meets_cut cut) p, few))
 
-pub cut_limits : (n cut : ℕ) (p : Polynomial) (targets : List (List ℤ)) (zero : List Sector) (bounds : Bounds) (caps : List SectorCaps) (budget : Budget) (probe : Option Probe)
-    → FamilyLimits n p targets zero bounds caps budget probe → cut < 2 ^ n → count_ones cut < n → cut_polynomial cut p ≢ []
-    → FamilyLimits (n - count_ones cut) (cut_polynomial cut p) (cut_targets cut targets) (cut_sectors n cut zero) bounds (cut_caps n cut caps) budget None
-cut_limits n cut p targets zero bounds caps budget probe h small some left =
+pub cut_limits : (n cut : ℕ) (p : Polynomial) (targets : List (List ℤ)) (zero : List Sector) (bounds : Bounds) (caps : List SectorCaps) (symmetries : List (List ℕ)) (budget : Budget) (probe : Option Probe)
+    → FamilyLimits n p targets zero bounds caps symmetries budget probe → cut < 2 ^ n → count_ones cut < n → cut_polynomial cut p ≢ []
+    → FamilyLimits (n - count_ones cut) (cut_polynomial cut p) (cut_targets cut targets) (cut_sectors n cut zero) bounds (cut_caps n cut caps) [] budget None
+cut_limits n cut p targets zero bounds caps symmetries budget probe h small some left =
     let read = read_cut n cut p small h.polynomial h.few_terms in
     let whole : count_ones cut + (n - count_ones cut) ≡ n = omega (arith, some) in
     let on = λ (t : List ℤ). is_on_cut cut t in
@@ -66,19 +66,23 @@ cut_limits n cut p targets zero bounds caps budget probe h small some left =
           (each_moved (CapsWithin n) (CapsWithin (n - count_ones cut)) entry_in move_entry
           (λ c within. record { below = without_below n cut (n - count_ones cut) c.sector.0 whole small; dots = within.dots; rank = within.rank }) caps (by_recursion (CapsWithin n) caps h.caps_within));
       distinct_caps = distinct_moved (CapsWithin n) have_one_sector have_one_sector entry_in move_entry (caps_apart n cut) caps (by_recursion (CapsWithin n) caps h.caps_within) h.distinct_caps;
+      few_symmetries = omega arith;
+      permutations = λ k d below. absurd (omega (arith, below));
+      closed = refl;
       budget_within = h.budget_within;
       probe_fits = λ probe none. absurd (cc);
     }
 
 -- the same for values that are equal to these
-pub made_limits : (n cut m : ℕ) (p q : Polynomial) (targets ts : List (List ℤ)) (zero zs : List Sector) (bounds : Bounds) (caps cs : List SectorCaps) (budget : Budget) (probe : Option Probe)
-    → FamilyLimits n p targets zero bounds caps budget probe → cut < 2 ^ n → count_ones cut < n → q ≢ []
-    → m ≡ n - count_ones cut → q ≡ cut_polynomial cut p → ts ≡ cut_targets cut targets → zs ≡ cut_sectors n cut zero → cs ≡ cut_caps n cut caps
-    → FamilyLimits m q ts zs bounds cs budget None
-made_limits n cut m p q targets ts zero zs bounds caps cs budget probe h small some left em eq et ez ec =
-    subst (λ m. FamilyLimits m q ts zs bounds cs budget None) (sym em)
-    (subst (λ ts. FamilyLimits (n - count_ones cut) q ts zs bounds cs budget None) (sym et)
-    (subst (λ zs. FamilyLimits (n - count_ones cut) q (cut_targets cut targets) zs bounds cs budget None) (sym ez)
-    (subst (λ cs. FamilyLimits (n - count_ones cut) q (cut_targets cut targets) (cut_sectors n cut zero) bounds cs budget None) (sym ec)
-    (subst (λ q. FamilyLimits (n - count_ones cut) q (cut_targets cut targets) (cut_sectors n cut zero) bounds (cut_caps n cut caps) budget None) (sym eq)
-    (cut_limits n cut p targets zero bounds caps budget probe h small some (λ none. left (eq ∙ none)))))))
+pub made_limits : (n cut m : ℕ) (p q : Polynomial) (targets ts : List (List ℤ)) (zero zs : List Sector) (bounds : Bounds) (caps cs : List SectorCaps) (symmetries gs : List (List ℕ)) (budget : Budget) (probe : Option Probe)
+    → FamilyLimits n p targets zero bounds caps symmetries budget probe → cut < 2 ^ n → count_ones cut < n → q ≢ []
+    → m ≡ n - count_ones cut → q ≡ cut_polynomial cut p → ts ≡ cut_targets cut targets → zs ≡ cut_sectors n cut zero → cs ≡ cut_caps n cut caps → gs ≡ []
+    → FamilyLimits m q ts zs bounds cs gs budget None
+made_limits n cut m p q targets ts zero zs bounds caps cs symmetries gs budget probe h small some left em eq et ez ec none =
+    subst (λ m. FamilyLimits m q ts zs bounds cs gs budget None) (sym em)
+    (subst (λ gs. FamilyLimits (n - count_ones cut) q ts zs bounds cs gs budget None) (sym none)
+    (subst (λ ts. FamilyLimits (n - count_ones cut) q ts zs bounds cs [] budget None) (sym et)
+    (subst (λ zs. FamilyLimits (n - count_ones cut) q (cut_targets cut targets) zs bounds cs [] budget None) (sym ez)
+    (subst (λ cs. FamilyLimits (n - count_ones cut) q (cut_targets cut targets) (cut_sectors n cut zero) bounds cs [] budget None) (sym ec)
+    (subst (λ q. FamilyLimits (n - count_ones cut) q (cut_targets cut targets) (cut_sectors n cut zero) bounds (cut_caps n cut caps) [] budget None) (sym eq)
+    (cut_limits n cut p targets zero bounds caps symmetries budget probe h small some (λ zero_polynomial. left (eq ∙ zero_polynomial))))))))

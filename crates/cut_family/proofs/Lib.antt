@@ -1,6 +1,5 @@
 pub mod PlaceLaws
 pub mod Ranges
-pub mod RowSums
 mod MoreTerms
 pub mod Limits
 pub mod Distinct

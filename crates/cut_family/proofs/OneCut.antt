@@ -22,6 +22,7 @@ one_cut cut whole f g one other = λ i. record {
   zero = (one.zero ∙ sym other.zero) i;
   bounds = (one.bounds ∙ sym other.bounds) i;
   caps = (one.caps ∙ sym other.caps) i;
+  symmetries = (one.symmetries ∙ sym other.symmetries) i;
   budget = (one.budget ∙ sym other.budget) i;
   probe = (one.probe ∙ sym other.probe) i;
 }
@@ -48,9 +49,10 @@ cut_within cut whole family small within no_fault is =
       zero = cut_sectors whole.n cut whole.zero;
       bounds = whole.bounds;
       caps = cut_caps whole.n cut whole.caps;
+      symmetries = [];
       budget = whole.budget;
       probe = None;
     } in
-    let are : IsCutFamily cut whole made = record { name = refl; n = refl; gamma = refl; baikov = refl; targets = refl; zero = refl; bounds = refl; caps = refl; budget = refl; probe = refl } in
+    let are : IsCutFamily cut whole made = record { name = refl; n = refl; gamma = refl; baikov = refl; targets = refl; zero = refl; bounds = refl; caps = refl; symmetries = refl; budget = refl; probe = refl } in
     subst DataWithin (one_cut cut whole made family are is)
-    (cut_limits whole.n cut whole.baikov whole.targets whole.zero whole.bounds whole.caps whole.budget whole.probe within small some left)
+    (cut_limits whole.n cut whole.baikov whole.targets whole.zero whole.bounds whole.caps whole.symmetries whole.budget whole.probe within small some left)

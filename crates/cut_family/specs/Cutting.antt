@@ -62,6 +62,7 @@ pub record IsCutFamily (cut : ℕ) (whole family : FamilyData) : Type 0 where
   pub zero : family.zero ≡ cut_sectors whole.n cut whole.zero
   pub bounds : family.bounds ≡ whole.bounds
   pub caps : family.caps ≡ cut_caps whole.n cut whole.caps
+  pub symmetries : family.symmetries ≡ []
   pub budget : family.budget ≡ whole.budget
   pub probe : family.probe ≡ None
 

@@ -153,6 +153,7 @@ pub fn cut(alloc: Global, family: &Family, cut: Sector) -> Result<Family, CutAns
         zero: List::from_vec(zero),
         bounds: family.bounds,
         caps: List::from_vec(caps),
+        symmetries: List::from_vec(Vec::new(alloc)),
         budget: family.budget,
         probe: None,
     })

@@ -16,5 +16,6 @@ pub record FamilyData : Type 0 where
   pub zero : List Sector
   pub bounds : Bounds
   pub caps : List SectorCaps
+  pub symmetries : List (List ℕ)
   pub budget : Budget
   pub probe : Option Probe

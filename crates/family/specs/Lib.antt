@@ -1,6 +1,7 @@
 pub mod Name
 pub mod Shapes
 pub mod Caps
+pub mod Permutation
 pub mod Limits
 pub mod LimitsProp
 pub mod Conditions

@@ -1,5 +1,5 @@
 -- The limits that the parts of every family are within.
-use Rattle.std.specs.Prelude.{◌≢◌, ℕ, ◌<◌, ◌≤◌, ◌^◌, ℤ, List, [], length, Option}
+use Rattle.std.specs.Prelude.{◌≡◌, ◌≢◌, true, ℕ, ◌<◌, ◌≤◌, ◌^◌, ℤ, List, [], length, Option}
 use Rattle.std.specs.List.{All, IsDistinct}
 use Rattle.std.specs.Option.{ForSome}
 use Rattle.ibp_algebra.specs.Laurent.{same_powers}
@@ -7,12 +7,13 @@ use Rattle.ibp_algebra.specs.Polynomial.{Polynomial}
 use Rattle.mono_order.specs.declared.limits.TheConstants.{VARIABLES}
 use Rattle.sector_lattice.specs.declared.sector.Sector.{Sector}
 use Rattle.sparse_poly.specs.declared.limits.TheConstants.{DEGREE_LIMIT, TERM_LIMIT}
-use Rattle.family.specs.declared.limits.TheConstants.{CAP_LIMIT, EXTRA_LIMIT, PAIR_LIMIT, CANDIDATE_LIMIT, TARGET_LIMIT, SECTOR_LIMIT, SECTOR_CAPS_LIMIT}
+use Rattle.family.specs.declared.limits.TheConstants.{CAP_LIMIT, EXTRA_LIMIT, PAIR_LIMIT, CANDIDATE_LIMIT, TARGET_LIMIT, SECTOR_LIMIT, SECTOR_CAPS_LIMIT, SYMMETRY_LIMIT}
 use Rattle.family.specs.declared.parts.Bounds.{Bounds}
 use Rattle.family.specs.declared.parts.Budget.{Budget}
 use Rattle.family.specs.declared.parts.Probe.{Probe}
 use Rattle.family.specs.declared.parts.SectorCaps.{SectorCaps}
 use Rattle.family.specs.Caps.{have_one_sector}
+use Rattle.family.specs.Permutation.{is_permutation, are_closed}
 use Rattle.family.specs.Shapes.{IsPolynomial, IsField, ArePowers}
 
 pub record BoundsWithin (bounds : Bounds) : Type 0 where
@@ -36,7 +37,7 @@ pub record IsProbe (n : ℕ) (probe : Probe) : Type 0 where
   pub few_factor_terms : length probe.field.b ≤ TERM_LIMIT
   pub seed : ArePowers n probe.seed
 
-pub record FamilyLimits (n : ℕ) (baikov : Polynomial) (targets : List (List ℤ)) (zero : List Sector) (bounds : Bounds) (caps : List SectorCaps) (budget : Budget) (probe : Option Probe) : Type 0 where
+pub record FamilyLimits (n : ℕ) (baikov : Polynomial) (targets : List (List ℤ)) (zero : List Sector) (bounds : Bounds) (caps : List SectorCaps) (symmetries : List (List ℕ)) (budget : Budget) (probe : Option Probe) : Type 0 where
   pub some_variables : 1 ≤ n
   pub few_variables : n ≤ VARIABLES
   pub polynomial : IsPolynomial n DEGREE_LIMIT baikov
@@ -51,5 +52,8 @@ pub record FamilyLimits (n : ℕ) (baikov : Polynomial) (targets : List (List �
   pub few_caps : length caps ≤ SECTOR_CAPS_LIMIT
   pub caps_within : All (CapsWithin n) caps
   pub distinct_caps : IsDistinct have_one_sector caps
+  pub few_symmetries : length symmetries ≤ SYMMETRY_LIMIT
+  pub permutations : All (λ numbers. is_permutation n numbers ≡ true) symmetries
+  pub closed : are_closed n symmetries ≡ true
   pub budget_within : BudgetWithin budget
   pub probe_fits : ForSome probe (IsProbe n)

@@ -38,5 +38,5 @@ polynomial-prop n degree p =
     let within = AllKeys-prop (λ m. sum m ≤ degree) (λ m. le_prop) p in
     hlevel (props, canonical, variables, within)
 
-pub limits-prop : (n : ℕ) (baikov : Polynomial) (targets : List (List ℤ)) (zero : List Sector) (bounds : Bounds) (caps : List SectorCaps) (budget : Budget) (probe : Option Probe) → IsProp (FamilyLimits n baikov targets zero bounds caps budget probe)
-limits-prop n baikov targets zero bounds caps budget probe = hlevel (props, polynomial-prop, IsDistinct-prop)
+pub limits-prop : (n : ℕ) (baikov : Polynomial) (targets : List (List ℤ)) (zero : List Sector) (bounds : Bounds) (caps : List SectorCaps) (symmetries : List (List ℕ)) (budget : Budget) (probe : Option Probe) → IsProp (FamilyLimits n baikov targets zero bounds caps symmetries budget probe)
+limits-prop n baikov targets zero bounds caps symmetries budget probe = hlevel (props, polynomial-prop, IsDistinct-prop)

@@ -4,7 +4,8 @@ ghost use Rattle.std.specs.Prelude.{◌≡◌, IfOk};
 ghost use Rattle.family.specs.FamilyView.{family_view};
 
 use crate::family::Family;
-use crate::parts::{Field, Probe};
+use crate::parts::{Field, Probe, StrippedField};
+use crate::permutation::copy_permutations;
 use ibp_base::{List, NoMemory};
 use sparse_poly::copy_polynomials;
 use std::alloc::Global;
@@ -32,6 +33,17 @@ fn copy_probe(alloc: Global, probe: &Option<Probe>) -> Result<Option<Probe>, NoM
     }
 }
 
+impl StrippedField {
+    /// An equal field.
+    pub fn copy(&self, alloc: Global) -> Result<StrippedField, NoMemory>
+        ensures { IfOk result (λ f. f ≡ self.now) }
+    {
+        let c = copy_polynomials(alloc, self.c.as_slice())?;
+        let b = self.b.copy(alloc)?;
+        Ok(StrippedField { c, b })
+    }
+}
+
 impl Family {
     /// An equal family.
     pub fn copy(&self, alloc: Global) -> Result<Family, NoMemory>
@@ -42,6 +54,7 @@ impl Family {
         let targets = self.targets.as_slice().to_vec(alloc)?;
         let zero = self.zero.as_slice().to_vec(alloc)?;
         let caps = self.caps.as_slice().to_vec(alloc)?;
+        let symmetries = copy_permutations(alloc, self.symmetries.as_slice())?;
         let probe = copy_probe(alloc, &self.probe)?;
         Ok(Family {
             name,
@@ -52,6 +65,7 @@ impl Family {
             zero: List::from_vec(zero),
             bounds: self.bounds,
             caps: List::from_vec(caps),
+            symmetries,
             budget: self.budget,
             probe,
         })

@@ -5,6 +5,7 @@ ghost use Rattle.family.specs.LimitsProp.{limits-prop};
 
 use crate::name::Name;
 use crate::parts::{Bounds, Budget, Probe, SectorCaps};
+use crate::permutation::Permutation;
 use ibp_base::List;
 use ibp_field::Residue;
 use sector_lattice::{Integral, Sector};
@@ -31,9 +32,12 @@ pub struct Family {
     pub bounds: Bounds,
     /// The sectors with caps of their own, each once, in the order of the file.
     pub caps: List<SectorCaps>,
+    /// Permutations of the variables under which integrals may be taken for one another, in the order of the file;
+    /// with the identity they are a group.
+    pub symmetries: List<Permutation>,
     /// How much work a sector may take.
     pub budget: Budget,
     /// A field and a seed, where the file has them.
     pub probe: Option<Probe>,
-    pub ghost limits: { FamilyLimits n baikov targets zero bounds caps budget probe } by { limits-prop n baikov targets zero bounds caps budget probe },
+    pub ghost limits: { FamilyLimits n baikov targets zero bounds caps symmetries budget probe } by { limits-prop n baikov targets zero bounds caps symmetries budget probe },
 }

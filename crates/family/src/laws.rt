@@ -4,7 +4,7 @@ ghost use Rattle.std.specs.Prelude.{◌≡◌, ◌≢◌, ◌↔◌, ℕ, ℤ, p
 ghost use Rattle.std.specs.List.{IsDistinct};
 ghost use Rattle.ibp_algebra.specs.Identity.{in_sector_of};
 ghost use Rattle.sector_lattice.specs.Sectors.{sector_of};
-ghost use Rattle.family.specs.declared.limits.TheConstants.{FAMILY_NAME_LIMIT, SECTOR_LIMIT, TARGET_LIMIT, LEAST_POWER, GREATEST_POWER, SECTOR_CAPS_LIMIT, CAP_LIMIT, EXTRA_LIMIT, PAIR_LIMIT, CANDIDATE_LIMIT};
+ghost use Rattle.family.specs.declared.limits.TheConstants.{FAMILY_NAME_LIMIT, SECTOR_LIMIT, TARGET_LIMIT, LEAST_POWER, GREATEST_POWER, SECTOR_CAPS_LIMIT, SYMMETRY_LIMIT, CAP_LIMIT, EXTRA_LIMIT, PAIR_LIMIT, CANDIDATE_LIMIT};
 ghost use Rattle.family.specs.declared.parts.Bounds.{Bounds};
 ghost use Rattle.family.specs.declared.parts.SectorCaps.{SectorCaps};
 ghost use Rattle.family.specs.Caps.{have_one_sector, caps_of};
@@ -41,6 +41,7 @@ pub fn limits_of_families()
     ensures least_power { LEAST_POWER ≡ neg_ℤ (pos 30) }
     ensures greatest_power { GREATEST_POWER ≡ pos 30 }
     ensures sector_caps { SECTOR_CAPS_LIMIT ≡ 4096 }
+    ensures symmetries { SYMMETRY_LIMIT ≡ 64 }
     ensures cap { CAP_LIMIT ≡ 20 }
     ensures extra { EXTRA_LIMIT ≡ 5 }
     ensures pairs { PAIR_LIMIT ≡ 10000000 }

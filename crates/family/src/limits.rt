@@ -18,6 +18,9 @@ pub const GREATEST_POWER: i16 = 30;
 /// The greatest number of sectors that have caps of their own.
 pub const SECTOR_CAPS_LIMIT: usize = 4096;
 
+/// The greatest number of permutations that are listed.
+pub const SYMMETRY_LIMIT: usize = 64;
+
 /// The greatest cap of dots or of rank.
 pub const CAP_LIMIT: u32 = 20;
 

@@ -50,6 +50,17 @@ pub struct SectorCaps {
     pub rank: u32,
 }
 
+/// Which pair a run of Buchberger's algorithm takes next. The reduced bases are the same for either; which
+/// budget a run spends is not.
+#[derive(Clone, Copy, Debug, PartialEq, Eq)]
+pub enum Selection {
+    /// The one whose least common multiple is least in the order of terms.
+    Order,
+    /// The one whose least common multiple has the least degree, counted so that a field of one degree is
+    /// homogeneous.
+    Degree,
+}
+
 /// How much work may be spent on a sector.
 #[derive(Clone, Copy, Debug, PartialEq, Eq)]
 pub struct Budget {
@@ -57,6 +68,8 @@ pub struct Budget {
     pub pairs: u64,
     /// How many candidates for relations it may have, which are its generators times its seeds: 0 to 20,000.
     pub candidates: u64,
+    /// Which pair comes next.
+    pub selection: Selection,
 }
 
 /// A field and a seed of which a file asks the identity.

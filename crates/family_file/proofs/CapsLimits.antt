@@ -63,7 +63,7 @@ none_same same x (y ∷ ys) h =
       | false ↦ λ e k. (e, none_same same x ys k)
     ] refl h
 
-distinct_by : {X : Type 0} (same : X → X → Bool) (xs : List X) → are_distinct same xs ≡ true → IsDistinct same xs
+pub distinct_by : {X : Type 0} (same : X → X → Bool) (xs : List X) → are_distinct same xs ≡ true → IsDistinct same xs
 unfolding IsDistinct
 distinct_by same [] h = tt
 distinct_by same (x ∷ xs) h =

@@ -31,6 +31,8 @@ use Rattle.family_file.specs.Table.{PolynomialData, polynomial_text, term_list, 
 use Rattle.family_file.specs.Numbers.{natural}
 use Rattle.family_file.specs.Version.{version_of, leg_limit, variable_limit}
 use Rattle.family_file.specs.Caps.{caps_of}
+use Rattle.family_file.specs.Symmetries.{symmetries_of}
+use Rattle.family_file.specs.Selection.{selection_of}
 use Rattle.family_file.specs.Document.{HeaderKeys, BodyKeys, BoundsKeys, BudgetKeys, ProbeKeys, DocumentKeys, document_keys}
 use Rattle.family.specs.Shapes.{HasVariables}
 use Rattle.family.specs.Limits.{BoundsWithin, BudgetWithin, IsProbe, FamilyLimits}
@@ -46,6 +48,7 @@ use Rattle.ibp_base.proofs.Members.{All-each}
 use Rattle.family_file.proofs.TargetLimits.{powers_are, targets_are, AreTargets}
 use Rattle.family_file.proofs.SectorLimits.{zero_sectors_are, AreZeroSectors}
 use Rattle.family_file.proofs.CapsLimits.{caps_are, AreCaps}
+use Rattle.family_file.proofs.SymmetryLimits.{symmetries_are, AreSymmetries}
 use Rattle.family_file.proofs.PolynomialLimits.{IsRead, Small, zeros_at, read_normal, normal_form_length}
 use Rattle.family_file.proofs.TextLimits.{text_read}
 use Rattle.family_file.proofs.Filling.{padded_sum}
@@ -177,7 +180,8 @@ unfolding budget_of
 budget_is keys budget e =
     let pairs = bind_ok (natural faults.Budget 0 PAIR_LIMIT keys.pairs) _ budget e in
     let candidates = bind_ok (natural faults.Budget 0 CANDIDATE_LIMIT keys.candidates) _ budget pairs.1.1 in
-    subst BudgetWithin (same_ok _ budget candidates.1.1) (record {
+    let selection = bind_ok (selection_of keys.selection) _ budget candidates.1.1 in
+    subst BudgetWithin (same_ok _ budget selection.1.1) (record {
       pairs = (natural_within faults.Budget 0 PAIR_LIMIT keys.pairs pairs.0 pairs.1.0).1;
       candidates = (natural_within faults.Budget 0 CANDIDATE_LIMIT keys.candidates candidates.0 candidates.1.0).1;
     })
@@ -249,9 +253,9 @@ body_is n most keys body e =
     })
 
 -- the limits, put together
-pub limits_of : (n : ℕ) (body : BodyData) (bounds : Bounds) (caps : List SectorCaps) (budget : Budget) (probe : Option Probe) → 1 ≤ n → n ≤ VARIABLES → IsBody n body → BoundsWithin bounds → AreCaps n caps → BudgetWithin budget → ForSome probe (IsProbe n)
-    → FamilyLimits n body.baikov body.targets body.zero bounds caps budget probe
-limits_of n body bounds caps budget probe some few h bounds_within own budget_within probe_fits = record {
+pub limits_of : (n : ℕ) (body : BodyData) (bounds : Bounds) (caps : List SectorCaps) (symmetries : List (List ℕ)) (budget : Budget) (probe : Option Probe) → 1 ≤ n → n ≤ VARIABLES → IsBody n body → BoundsWithin bounds → AreCaps n caps → AreSymmetries n symmetries → BudgetWithin budget → ForSome probe (IsProbe n)
+    → FamilyLimits n body.baikov body.targets body.zero bounds caps symmetries budget probe
+limits_of n body bounds caps symmetries budget probe some few h bounds_within own group budget_within probe_fits = record {
   some_variables = some;
   few_variables = few;
   polynomial = h.baikov.read.polynomial;
@@ -266,14 +270,17 @@ limits_of n body bounds caps budget probe some few h bounds_within own budget_wi
   few_caps = own.few;
   caps_within = own.each;
   distinct_caps = own.distinct;
+  few_symmetries = group.few;
+  permutations = group.each;
+  closed = group.closed;
   budget_within = budget_within;
   probe_fits = probe_fits;
 }
 
-pub keys_within : (n : ℕ) → 1 ≤ n → n ≤ VARIABLES → (need : Need) (keys : DocumentKeys) (body : BodyData) (bounds : Bounds) (caps : List SectorCaps) (budget : Budget) (probe : Option Probe) → body_of n keys.body ≡ Ok body → bounds_of keys.bounds ≡ Ok bounds → caps_of n keys.sectors ≡ Ok caps → budget_of keys.budget ≡ Ok budget
-    → needed_probe need n body.numbers keys.probe ≡ Ok probe → FamilyLimits n body.baikov body.targets body.zero bounds caps budget probe
-keys_within n some few need keys body bounds caps budget probe a b own c d =
-    limits_of n body bounds caps budget probe some few (body_is n few keys.body body a) (bounds_are keys.bounds bounds b) (caps_are n keys.sectors caps own) (budget_is keys.budget budget c) (needed_probe_is need n few body.numbers keys.probe probe d)
+pub keys_within : (n : ℕ) → 1 ≤ n → n ≤ VARIABLES → (need : Need) (keys : DocumentKeys) (body : BodyData) (bounds : Bounds) (caps : List SectorCaps) (symmetries : List (List ℕ)) (budget : Budget) (probe : Option Probe) → body_of n keys.body ≡ Ok body → bounds_of keys.bounds ≡ Ok bounds → caps_of n keys.sectors ≡ Ok caps → budget_of keys.budget ≡ Ok budget
+    → needed_probe need n body.numbers keys.probe ≡ Ok probe → symmetries_of n keys.symmetries ≡ Ok symmetries → FamilyLimits n body.baikov body.targets body.zero bounds caps symmetries budget probe
+keys_within n some few need keys body bounds caps symmetries budget probe a b own c d group =
+    limits_of n body bounds caps symmetries budget probe some few (body_is n few keys.body body a) (bounds_are keys.bounds bounds b) (caps_are n keys.sectors caps own) (symmetries_are n keys.symmetries symmetries group) (budget_is keys.budget budget c) (needed_probe_is need n few body.numbers keys.probe probe d)
 
 keys_limits : (need : Need) (keys : DocumentKeys) (family : FamilyData) → family_of_keys need keys ≡ Ok family → DataWithin family
 unfolding family_of_keys
@@ -287,8 +294,9 @@ keys_limits need keys family e =
     let budget = bind_ok (budget_of keys.budget) _ family caps.1.1 in
     let probe = bind_ok (needed_probe need shape.0.variables body.0.numbers keys.probe) _ family budget.1.1 in
     let sector = bind_ok (sector_check need shape.0.variables) _ family probe.1.1 in
+    let symmetries = bind_ok (symmetries_of shape.0.variables keys.symmetries) _ family sector.1.1 in
     let fits = shape_is version.0 keys.header shape.0 shape.1.0 in
-    subst DataWithin (same_ok _ family sector.1.1) (keys_within shape.0.variables fits.some fits.few need keys body.0 bounds.0 caps.0 budget.0 probe.0 body.1.0 bounds.1.0 caps.1.0 budget.1.0 probe.1.0)
+    subst DataWithin (same_ok _ family symmetries.1.1) (keys_within shape.0.variables fits.some fits.few need keys body.0 bounds.0 caps.0 symmetries.0 budget.0 probe.0 body.1.0 bounds.1.0 caps.1.0 budget.1.0 probe.1.0 symmetries.1.0)
 
 pub accepted_within : (need : Need) (bytes : List ℕ) (family : FamilyData) → family_of need bytes ≡ Ok family → DataWithin family
 unfolding family_of
@@ -324,7 +332,8 @@ needs_met need keys family e =
     let budget = bind_ok (budget_of keys.budget) _ family caps.1.1 in
     let probe = bind_ok (needed_probe need shape.0.variables body.0.numbers keys.probe) _ family budget.1.1 in
     let sector = bind_ok (sector_check need shape.0.variables) _ family probe.1.1 in
-    subst (MeetsNeed need) (same_ok _ family sector.1.1) (record {
+    let symmetries = bind_ok (symmetries_of shape.0.variables keys.symmetries) _ family sector.1.1 in
+    subst (MeetsNeed need) (same_ok _ family symmetries.1.1) (record {
       probe = λ same. probe_given shape.0.variables body.0.numbers keys.probe probe.0 (subst (λ other. needed_probe other shape.0.variables body.0.numbers keys.probe ≡ Ok probe.0) same probe.1.0);
       sector = λ number same. sector_given number shape.0.variables sector.0 (subst (λ other. sector_check other shape.0.variables ≡ Ok sector.0) same sector.1.0);
     })

@@ -10,8 +10,11 @@ pub mod FirstOccurrences
 pub mod TargetLimits
 pub mod SectorLimits
 pub mod CapsLimits
+pub mod SymmetryLimits
 pub mod PolynomialLimits
 pub mod Texts
 pub mod TextLimits
 pub mod Filling
 pub mod FamilyLimits
+pub mod DrillLimits
+pub mod Products

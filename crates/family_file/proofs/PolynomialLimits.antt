@@ -71,7 +71,7 @@ product_keys P Q R both [] g h k = tt
 product_keys P Q R both (t ∷ f) g h k =
     AllKeys-append R (times_term add_exponents t g) (multiply f g) (times_keys P Q R both t.0 t.1 g h.0 k) (product_keys P Q R both f g h.1 k)
 
-joined_variables : (n : ℕ) (a b : List ℕ) → HasVariables n a → HasVariables n b → HasVariables n (add_exponents a b)
+pub joined_variables : (n : ℕ) (a b : List ℕ) → HasVariables n a → HasVariables n b → HasVariables n (add_exponents a b)
 joined_variables n a b h k = record {
   each_variable = length-padded_sum ◌+◌ VARIABLES a b h.each_variable k.each_variable;
   none_beyond = λ i le.

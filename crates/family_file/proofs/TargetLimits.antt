@@ -33,12 +33,12 @@ power_in_range fault d z h =
     let sides = whole_within fault LEAST_POWER GREATEST_POWER read.0 z read.1.1 in
     record { low = le_z_yes (T_from_true _ sides.0); high = le_z_yes (T_from_true _ sides.1) }
 
-lows : (zs : List ℤ) → AllByRecursion IsPower zs → (i : ℕ) → LEAST_POWER ≤ℤ power_at zs i
+pub lows : (zs : List ℤ) → AllByRecursion IsPower zs → (i : ℕ) → LEAST_POWER ≤ℤ power_at zs i
 lows [] h i = le_z_yes tt
 lows (z ∷ zs) h zero = h.0.low
 lows (z ∷ zs) h (suc i) = lows zs h.1 i
 
-highs : (zs : List ℤ) → AllByRecursion IsPower zs → (i : ℕ) → power_at zs i ≤ℤ GREATEST_POWER
+pub highs : (zs : List ℤ) → AllByRecursion IsPower zs → (i : ℕ) → power_at zs i ≤ℤ GREATEST_POWER
 highs [] h i = le_z_yes tt
 highs (z ∷ zs) h zero = h.0.high
 highs (z ∷ zs) h (suc i) = highs zs h.1 i

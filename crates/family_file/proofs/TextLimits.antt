@@ -18,7 +18,7 @@ use Rattle.family.specs.Shapes.{HasVariables}
 use Rattle.ibp_base.proofs.Tests.{both_true, not_false}
 use Rattle.family_file.proofs.PolynomialLimits.{IsRead, no_exponents, read_constant, NamesAre, value_read}
 
-variable_exponents : (n k : ℕ) → k < n → n ≤ VARIABLES → HasVariables n (slice_set (replicate VARIABLES 0) k 1)
+pub variable_exponents : (n k : ℕ) → k < n → n ≤ VARIABLES → HasVariables n (slice_set (replicate VARIABLES 0) k 1)
 variable_exponents n k below few = record {
   each_variable = length-set (replicate VARIABLES 0) k 1;
   none_beyond = λ i le. get_or-set_other (replicate VARIABLES 0) k i 1 0 (λ same. omega (arith, below, le, same)) ∙ (no_exponents n).none_beyond i le;

@@ -12,6 +12,7 @@ use Rattle.toml.specs.Data.{Data, as_integer}
 use Rattle.ibp_algebra.specs.Laurent.{same_powers}
 use Rattle.sector_lattice.specs.declared.sector.Sector.{Sector}
 use Rattle.family.specs.declared.limits.TheConstants.{LEAST_POWER, GREATEST_POWER, TARGET_LIMIT, SECTOR_LIMIT}
+pub use Rattle.family.specs.Permutation.{are_distinct}
 use Rattle.family_file.specs.declared.fault.FileFault.{FileFault}
 use Rattle.family_file.specs.declared.fault.FileFault.TheVariants.{Targets, ZeroSectors}
 use Rattle.family_file.specs.Reading.{◌>>=◌, collect}
@@ -63,11 +64,6 @@ unfoldable pub place_in : FileFault → ℕ → Data → Result ℕ FileFault
 place_in fault n d = do
   z ← integer_in fault d
   natural fault 1 n z
-
--- no two are the same
-abbrev pub are_distinct : {X : Type 0} → (X → X → Bool) → List X → Bool
-are_distinct same [] = true
-are_distinct same (x ∷ xs) = not (list_any (same x) xs) && are_distinct same xs
 
 -- the sum of 2^(i - 1) over the variables i up to n that are among these
 abbrev pub sector_number : ℕ → List ℕ → ℕ

@@ -29,6 +29,8 @@ use Rattle.family.specs.Name.{name_of}
 use Rattle.family_file.specs.Document.{HeaderKeys, BodyKeys, BoundsKeys, BudgetKeys, ProbeKeys, DocumentKeys, document_keys}
 use Rattle.family_file.specs.Arrays.{powers_from, targets_of, zero_sectors_of}
 use Rattle.family_file.specs.Caps.{caps_of}
+use Rattle.family_file.specs.Selection.{selection_of}
+use Rattle.family_file.specs.Symmetries.{symmetries_of}
 use Rattle.family_file.specs.Polynomials.{polynomial_in, field_of, residue_in, numbers_of}
 
 pub record ShapeData : Type 0 where
@@ -79,7 +81,8 @@ unfoldable pub budget_of : BudgetKeys → Result BudgetParts FileFault
 budget_of budget = do
   pairs ← natural Budget 0 PAIR_LIMIT budget.pairs
   candidates ← natural Budget 0 CANDIDATE_LIMIT budget.candidates
-  Ok (record { pairs = pairs; candidates = candidates })
+  selection ← selection_of budget.selection
+  Ok (record { pairs = pairs; candidates = candidates; selection = selection })
 
 unfoldable pub probe_of : ℕ → NumbersValue → ProbeKeys → Result ProbeParts FileFault
 probe_of n numbers probe = do
@@ -128,7 +131,8 @@ family_of_keys need keys = do
   budget ← budget_of keys.budget
   probe ← needed_probe need shape.variables body.numbers keys.probe
   sector ← sector_check need shape.variables
-  Ok (record { name = name; n = shape.variables; gamma = gamma_of body.dimension shape; baikov = body.baikov; targets = body.targets; zero = body.zero; bounds = bounds; caps = caps; budget = budget; probe = probe })
+  symmetries ← symmetries_of shape.variables keys.symmetries
+  Ok (record { name = name; n = shape.variables; gamma = gamma_of body.dimension shape; baikov = body.baikov; targets = body.targets; zero = body.zero; bounds = bounds; caps = caps; symmetries = symmetries; budget = budget; probe = probe })
 
 -- the family that the bytes describe, or the first fault that they have
 unfoldable pub family_of : Need → List ℕ → Result FamilyData FileFault

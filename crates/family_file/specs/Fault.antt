@@ -1,7 +1,7 @@
 -- The number of each fault.
 use Rattle.std.specs.Prelude.{ℕ}
 use Rattle.family_file.specs.declared.fault.FileFault.{FileFault}
-use Rattle.family_file.specs.declared.fault.FileFault.TheVariants.{TooLong, NotToml, Keys, Header, Shape, Number, Baikov, ZeroBaikov, ZeroSectors, Targets, Limits, Budget, Probe, NoSector}
+use Rattle.family_file.specs.declared.fault.FileFault.TheVariants.{TooLong, NotToml, Keys, Header, Shape, Number, Baikov, ZeroBaikov, ZeroSectors, Targets, Limits, Budget, Probe, NoSector, Symmetries}
 
 abbrev pub fault_number : FileFault → ℕ
 fault_number TooLong = 1
@@ -18,3 +18,4 @@ fault_number Limits = 11
 fault_number Budget = 12
 fault_number Probe = 13
 fault_number NoSector = 14
+fault_number Symmetries = 15

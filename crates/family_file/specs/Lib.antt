@@ -9,8 +9,11 @@ pub mod Fault
 pub mod Need
 pub mod Arrays
 pub mod Caps
+pub mod Symmetries
+pub mod Selection
 pub mod Polynomials
 pub mod Accumulated
 pub mod Family
 pub mod Accepted
 pub mod ReadViews
+pub mod Drill

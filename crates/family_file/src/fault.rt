@@ -53,6 +53,9 @@ pub enum FileFault {
     /// There is no sector of the number that is needed.
     #[error("there is no sector of this number")]
     NoSector,
+    /// The permutations are not of their form, or with the identity they lack a product of two of them.
+    #[error("the permutations are not of their form, or no group")]
+    Symmetries,
 }
 
 impl FileFault {
@@ -75,6 +78,7 @@ impl FileFault {
             FileFault::Budget => 12,
             FileFault::Probe => 13,
             FileFault::NoSector => 14,
+            FileFault::Symmetries => 15,
         }
     }
 }

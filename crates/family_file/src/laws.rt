@@ -6,7 +6,7 @@ ghost use Rattle.std.specs.List.Sorted.{IsStrictlySortedBy};
 ghost use Rattle.std.specs.Ordering.{nat_cmp};
 ghost use Rattle.ibp_algebra.specs.Laurent.{same_powers};
 ghost use Rattle.family.specs.Within.{DataWithin};
-ghost use Rattle.family_file.specs.declared.limits.TheConstants.{MAX_FILE, LOOP_LIMIT, LEG_LIMIT, VERSION_1_LEG_LIMIT, VERSION_1_VARIABLE_LIMIT, NUMBER_LIMIT};
+ghost use Rattle.family_file.specs.declared.limits.TheConstants.{MAX_FILE, LOOP_LIMIT, LEG_LIMIT, VERSION_1_LEG_LIMIT, VERSION_1_VARIABLE_LIMIT, NUMBER_LIMIT, DRILL_LIMIT};
 ghost use Rattle.family_file.specs.Accepted.{MeetsNeed};
 ghost use Rattle.family_file.specs.Arrays.{first_occurrences, first_place};
 ghost use Rattle.family.specs.FamilyData.{FamilyData};
@@ -37,4 +37,5 @@ pub fn limits_of_files()
     ensures version_1_legs { VERSION_1_LEG_LIMIT ≡ 8 }
     ensures version_1_variables { VERSION_1_VARIABLE_LIMIT ≡ 9 }
     ensures numbers { NUMBER_LIMIT ≡ 64 }
+    ensures drills { DRILL_LIMIT ≡ 9999 }
 {}

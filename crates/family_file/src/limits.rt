@@ -17,3 +17,6 @@ pub const VERSION_1_VARIABLE_LIMIT: u32 = 9;
 
 /// The greatest number of numbers that have names.
 pub const NUMBER_LIMIT: usize = 64;
+
+/// The greatest number of a drill.
+pub const DRILL_LIMIT: u32 = 9999;

@@ -23,6 +23,8 @@ use crate::need::Need;
 use crate::numbers::natural;
 use crate::polynomials::{field_of, polynomial_in, residue_in};
 use crate::sectors::zero_sectors_of;
+use crate::selection::selection_of;
+use crate::symmetries::symmetries_of;
 use crate::version::{Version, version_of};
 use family::{
     Bounds, Budget, CANDIDATE_LIMIT, CAP_LIMIT, EXTRA_LIMIT, Family, Field, Name, PAIR_LIMIT, Probe,
@@ -121,14 +123,16 @@ fn bounds_of(bounds: &BoundsKeys) -> Result<Bounds, FileFault>
 }
 
 #[tactic(auto, unfolding(crate::specs::Family::budget_of))]
-fn budget_of(budget: &BudgetKeys) -> Result<Budget, FileFault>
+fn budget_of(budget: &BudgetKeys<'_>) -> Result<Budget, FileFault>
     ensures { Returns (λ b. b) result (budget_of (budget_view budget.now)) }
 {
     let pairs = natural(budget.pairs, 0, PAIR_LIMIT, FileFault::Budget)?;
     let candidates = natural(budget.candidates, 0, CANDIDATE_LIMIT, FileFault::Budget)?;
+    let selection = selection_of(budget.selection)?;
     Ok(Budget {
         pairs: u64::from(pairs),
         candidates: u64::from(candidates),
+        selection,
     })
 }
 
@@ -260,6 +264,7 @@ fn family_of_keys(alloc: Global, need: Need, keys: &DocumentKeys<'_>) -> Result<
     let budget = budget_of(&keys.budget)?;
     let probe = needed_probe(alloc, need, n, &body.numbers, &keys.probe)?;
     check_sector(need, n)?;
+    let symmetries = symmetries_of(alloc, keys.symmetries, n)?;
     let gamma = gamma_of(body.dimension, shape);
     let Body {
         baikov,
@@ -276,6 +281,7 @@ fn family_of_keys(alloc: Global, need: Need, keys: &DocumentKeys<'_>) -> Result<
         zero: List::from_vec(zero),
         bounds,
         caps: List::from_vec(caps),
+        symmetries: List::from_vec(symmetries),
         budget,
         probe,
     })

@@ -4,6 +4,7 @@ use Rattle.std.specs.List.{Contains}
 use Rattle.std.specs.declared.cmp.Ordering.{Ordering}
 use Rattle.ibp_base.proofs.Members.{in_head, in_tail, in_none}
 use Rattle.mono_order.specs.Term.{Term}
+use Rattle.pair_queue.specs.declared.order.PairOrder.{PairOrder}
 use Rattle.pair_queue.specs.declared.queue.Pair.{Pair}
 use Rattle.module_vec.specs.ModuleVector.{ModuleVector}
 use Rattle.module_basis.specs.PlainRun.{run_state, IsProper, IsSoundState, is_dropped, undropped}
@@ -19,20 +20,20 @@ undropped_within elements (pair ∷ others) q c =
     within_if (is_dropped 1 elements others pair) pair others (undropped elements others) q (undropped_within elements others q) c
 
 -- the first of them is taken off
-pub IsSoundState-undropped : (order : Term → Term → Ordering) (variables : ℕ) (elements dereferenced : List ModuleVector) (pairs after : List Pair) (taken : ℕ) (found : Option Pair)
-    → IsSoundState order variables (run_state elements pairs taken) → IfSome found (λ pair. undropped dereferenced pairs ≡ pair ∷ after) → IfNone found (after ≡ [])
-    → IsSoundState order variables (run_state elements after taken)
-IsSoundState-undropped order variables elements dereferenced pairs after taken None sound first empty =
+pub IsSoundState-undropped : (order : Term → Term → Ordering) (variables : ℕ) (elements dereferenced : List ModuleVector) (before by : PairOrder) (pairs after : List Pair) (taken : ℕ) (found : Option Pair)
+    → IsSoundState order variables (run_state before elements pairs taken) → IfSome found (λ pair. undropped dereferenced pairs ≡ pair ∷ after) → IfNone found (after ≡ [])
+    → IsSoundState order variables (run_state by elements after taken)
+IsSoundState-undropped order variables elements dereferenced before by pairs after taken None sound first empty =
     record { monic = sound.monic; proper = λ q c. absurd (in_none q (subst (λ (l : List Pair). Contains l q) empty c)) }
-IsSoundState-undropped order variables elements dereferenced pairs after taken (Some pair) sound first empty =
+IsSoundState-undropped order variables elements dereferenced before by pairs after taken (Some pair) sound first empty =
     record {
       monic = sound.monic;
       proper = λ q c. sound.proper q (undropped_within dereferenced pairs q (subst (λ (l : List Pair). Contains l q) (sym first) (in_tail pair after q c)));
     }
 
-pub first_proper : (order : Term → Term → Ordering) (variables : ℕ) (elements dereferenced : List ModuleVector) (pairs after : List Pair) (taken : ℕ) (found : Option Pair)
-    → IsSoundState order variables (run_state elements pairs taken) → IfSome found (λ pair. undropped dereferenced pairs ≡ pair ∷ after)
+pub first_proper : (order : Term → Term → Ordering) (variables : ℕ) (elements dereferenced : List ModuleVector) (by : PairOrder) (pairs after : List Pair) (taken : ℕ) (found : Option Pair)
+    → IsSoundState order variables (run_state by elements pairs taken) → IfSome found (λ pair. undropped dereferenced pairs ≡ pair ∷ after)
     → IfSome found (λ pair. IsProper elements pair)
-first_proper order variables elements dereferenced pairs after taken None sound first = tt
-first_proper order variables elements dereferenced pairs after taken (Some pair) sound first =
+first_proper order variables elements dereferenced by pairs after taken None sound first = tt
+first_proper order variables elements dereferenced by pairs after taken (Some pair) sound first =
     sound.proper pair (undropped_within dereferenced pairs pair (subst (λ (l : List Pair). Contains l pair) (sym first) (in_head pair after pair refl)))

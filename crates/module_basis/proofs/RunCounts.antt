@@ -5,8 +5,9 @@ use Rattle.std.specs.declared.cmp.Ordering.{Ordering}
 use Rattle.mono_order.specs.Term.{Term}
 use Rattle.module_vec.specs.ModuleVector.{ModuleVector, lead, multiple_value}
 use Rattle.module_vec.specs.Division.{Division, Remainder, OverDegree, divide, is_over_degree, monic_of, multiple_with_lead, s_vector}
+use Rattle.pair_queue.specs.declared.order.PairOrder.{PairOrder}
 use Rattle.pair_queue.specs.declared.queue.Pair.{Pair}
-use Rattle.pair_queue.specs.Pairs.{insert_pairs}
+use Rattle.pair_queue.specs.Pairs.{compare_pairs, insert_pairs}
 use Rattle.module_basis.specs.PlainRun.{RunState, pairs_left, Done, Step, Next, Over, pairs_with, has_pair_over, with_element, with_generators, step_to, with_remainder, element, take_pair, without_pair, after_step, run_pairs, run_from, opening, RunsTo}
 
 added_if : (b : Bool) (state added next : RunState) → length added.elements ≡ length state.elements + 1 → added.taken ≡ state.taken → (if b then None else Some added) ≡ Some next
@@ -20,7 +21,7 @@ pub with_element-counts : (order : Term → Term → Ordering) (limit : ℕ) (st
     → (length next.elements ≡ length state.elements + 1) × (next.taken ≡ state.taken)
 with_element-counts order limit state v next e =
     let formed = pairs_with (length state.elements + 1) (lead v) 1 state.elements in
-    added_if (has_pair_over limit formed) state (record { elements = state.elements ++ v ∷ []; pairs = insert_pairs order formed state.pairs; taken = state.taken }) next
+    added_if (has_pair_over limit formed) state (record { by = state.by; elements = state.elements ++ v ∷ []; pairs = insert_pairs (compare_pairs order state.by) formed state.pairs; taken = state.taken }) next
     (length-append state.elements (v ∷ [])) refl e
 
 step_next : (x : Option RunState) (next : RunState) → ◌≡◌ {A = Option Step} (Some (step_to x)) (Some (Next next)) → x ≡ Some next
@@ -85,21 +86,21 @@ generators-counts order limit (g ∷ rest) state next e =
           (omega (arith, first.0, later.0), later.1 ∙ first.1)
     ] refl e
 
-run_from-counts : (order : Term → Term → Ordering) (limit steps budget : ℕ) (generators : List ModuleVector) (start : Option RunState) → opening order limit generators ≡ start
+run_from-counts : (order : Term → Term → Ordering) (by : PairOrder) (limit steps budget : ℕ) (generators : List ModuleVector) (start : Option RunState) → opening order by limit generators ≡ start
     → (list : List ModuleVector) (taken : ℕ) → run_from order limit steps budget start ≡ Some (Done list taken) → (taken ≤ budget) × (length list ≤ length generators + taken)
-run_from-counts order limit steps budget generators None opens list taken e = cc
-run_from-counts order limit steps budget generators (Some state) opens list taken e =
-    let first = generators-counts order limit generators (record { elements = []; pairs = []; taken = 0 }) state opens in
+run_from-counts order by limit steps budget generators None opens list taken e = cc
+run_from-counts order by limit steps budget generators (Some state) opens list taken e =
+    let first = generators-counts order limit generators (record { by = by; elements = []; pairs = []; taken = 0 }) state opens in
     let run = run_pairs-counts order limit steps budget (pairs_left state) state list taken e in
     (omega (arith, first.1, run.0), omega (arith, first.0, first.1, run.1))
 
-pub opening-counts : (order : Term → Term → Ordering) (limit : ℕ) (generators : List ModuleVector) (state : RunState) → opening order limit generators ≡ Some state
+pub opening-counts : (order : Term → Term → Ordering) (by : PairOrder) (limit : ℕ) (generators : List ModuleVector) (state : RunState) → opening order by limit generators ≡ Some state
     → (length state.elements ≡ length generators) × (state.taken ≡ 0)
-opening-counts order limit generators state e =
-    let counts = generators-counts order limit generators (record { elements = []; pairs = []; taken = 0 }) state e in
+opening-counts order by limit generators state e =
+    let counts = generators-counts order limit generators (record { by = by; elements = []; pairs = []; taken = 0 }) state e in
     (omega (arith, counts.0), counts.1)
 
-pub run_counts : (order : Term → Term → Ordering) (limit budget : ℕ) (generators list : List ModuleVector) (taken : ℕ) → RunsTo order limit generators budget (Done list taken)
+pub run_counts : (order : Term → Term → Ordering) (by : PairOrder) (limit budget : ℕ) (generators list : List ModuleVector) (taken : ℕ) → RunsTo order by limit generators budget (Done list taken)
     → (taken ≤ budget) × (length list ≤ length generators + taken)
-run_counts order limit budget generators list taken run =
-    run_from-counts order limit run.steps budget generators (opening order limit generators) refl list taken run.ends
+run_counts order by limit budget generators list taken run =
+    run_from-counts order by limit run.steps budget generators (opening order by limit generators) refl list taken run.ends

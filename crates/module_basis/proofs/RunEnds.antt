@@ -6,6 +6,7 @@ use Rattle.mono_order.specs.Term.{Term}
 use Rattle.module_vec.specs.ModuleVector.{ModuleVector}
 use Rattle.module_vec.specs.Division.{Division}
 use Rattle.module_vec.proofs.DivisionLaws.{divide-more}
+use Rattle.pair_queue.specs.declared.order.PairOrder.{PairOrder}
 use Rattle.pair_queue.specs.declared.queue.Pair.{Pair}
 use Rattle.module_basis.specs.PlainRun.{RunState, pairs_left, RunEnd, Step, Next, Over, with_remainder, take_pair, without_pair, after_step, run_pairs, run_from, opening, RunsTo, PairsSpent, DegreeOver}
 use Rattle.module_basis.specs.declared.fault.BasisFault.{BasisFault}
@@ -48,27 +49,27 @@ run_from-more order limit n m le budget None end e = e
 run_from-more order limit n m le budget (Some state) end e = run_pairs-more order limit n m le budget (pairs_left state) state end e
 
 -- A run ends in one way.
-pub RunsTo-unique : (order : Term → Term → Ordering) (limit : ℕ) (generators : List ModuleVector) (budget : ℕ) (first second : RunEnd)
-    → RunsTo order limit generators budget first → RunsTo order limit generators budget second → first ≡ second
-RunsTo-unique order limit generators budget first second h k =
-    let start = opening order limit generators in
+pub RunsTo-unique : (order : Term → Term → Ordering) (by : PairOrder) (limit : ℕ) (generators : List ModuleVector) (budget : ℕ) (first second : RunEnd)
+    → RunsTo order by limit generators budget first → RunsTo order by limit generators budget second → first ≡ second
+RunsTo-unique order by limit generators budget first second h k =
+    let start = opening order by limit generators in
     let a = run_from-more order limit h.steps (h.steps + k.steps) (omega arith) budget start first h.ends in
     let b = run_from-more order limit k.steps (h.steps + k.steps) (omega arith) budget start second k.ends in
     cc
 
 -- one end excludes each other one
-pub RunsTo-apart : (order : Term → Term → Ordering) (limit : ℕ) (generators : List ModuleVector) (budget : ℕ) (first second : RunEnd)
-    → RunsTo order limit generators budget first → first ≢ second → RunsTo order limit generators budget second → ⊥
-RunsTo-apart order limit generators budget first second h apart k = apart (RunsTo-unique order limit generators budget first second h k)
+pub RunsTo-apart : (order : Term → Term → Ordering) (by : PairOrder) (limit : ℕ) (generators : List ModuleVector) (budget : ℕ) (first second : RunEnd)
+    → RunsTo order by limit generators budget first → first ≢ second → RunsTo order by limit generators budget second → ⊥
+RunsTo-apart order by limit generators budget first second h apart k = apart (RunsTo-unique order by limit generators budget first second h k)
 
 -- What a fault tells of the end of a run, where it comes from a step that has not spent the budget.
-pub fault_tells : {T : Type 0} (order : Term → Term → Ordering) (limit : ℕ) (generators : List ModuleVector) (budget : ℕ) (fault : BasisFault) (result : Result T BasisFault)
-    → result ≡ Err fault → (fault ≡ faults.DegreeOver → RunsTo order limit generators budget DegreeOver) → fault ≢ faults.PairsSpent → result ≢ Err faults.NoMemory
-    → ((result ≡ Err faults.PairsSpent) ↔ RunsTo order limit generators budget PairsSpent) × ((result ≡ Err faults.DegreeOver) ↔ RunsTo order limit generators budget DegreeOver)
-fault_tells order limit generators budget faults.PairsSpent result is over not_spent memory = absurd (not_spent refl)
-fault_tells order limit generators budget faults.NoMemory result is over not_spent memory = absurd (memory is)
-fault_tells order limit generators budget faults.DegreeOver result is over not_spent memory =
+pub fault_tells : {T : Type 0} (order : Term → Term → Ordering) (by : PairOrder) (limit : ℕ) (generators : List ModuleVector) (budget : ℕ) (fault : BasisFault) (result : Result T BasisFault)
+    → result ≡ Err fault → (fault ≡ faults.DegreeOver → RunsTo order by limit generators budget DegreeOver) → fault ≢ faults.PairsSpent → result ≢ Err faults.NoMemory
+    → ((result ≡ Err faults.PairsSpent) ↔ RunsTo order by limit generators budget PairsSpent) × ((result ≡ Err faults.DegreeOver) ↔ RunsTo order by limit generators budget DegreeOver)
+fault_tells order by limit generators budget faults.PairsSpent result is over not_spent memory = absurd (not_spent refl)
+fault_tells order by limit generators budget faults.NoMemory result is over not_spent memory = absurd (memory is)
+fault_tells order by limit generators budget faults.DegreeOver result is over not_spent memory =
     let ends = over refl in (
-      (λ e. absurd (let clash : ⊥ = cc in clash), λ h. absurd (RunsTo-apart order limit generators budget DegreeOver PairsSpent ends (λ e. cc) h)),
+      (λ e. absurd (let clash : ⊥ = cc in clash), λ h. absurd (RunsTo-apart order by limit generators budget DegreeOver PairsSpent ends (λ e. cc) h)),
       (λ e. ends, λ h. is),
     )

@@ -31,8 +31,9 @@ use Rattle.module_basis.proofs.Buchberger.{buchberger}
 use Rattle.module_basis.proofs.ChainCriterion.{HasStandardRepresentation-sym, chain_criterion, has_pair-Contains, gone_up, gone_down, dropped_through}
 use Rattle.module_vec.specs.Division.{Division, Remainder, OverDegree, divide, monic_of, multiple_with_lead, s_vector, ReducesTo, is_over_degree}
 use Rattle.module_basis.specs.GroebnerBasis.{HasStandardRepresentation, AllPairsReduce, IsGroebnerBasis}
+use Rattle.pair_queue.specs.declared.order.PairOrder.{PairOrder}
 use Rattle.pair_queue.specs.declared.queue.Pair.{Pair}
-use Rattle.pair_queue.specs.Pairs.{insert_pair, insert_pairs, has_pair}
+use Rattle.pair_queue.specs.Pairs.{compare_pairs, insert_pair, insert_pairs, has_pair}
 use Rattle.module_basis.specs.PlainRun.{pair_at, IsProper, pairs_with, is_left, is_dropped, undropped, pairs_left, RunState, with_element, has_pair_over, with_generators, opening, RunEnd, Done, PairsSpent, DegreeOver, Step, Next, Over, step_to, with_remainder, take_pair, without_pair, after_step, run_pairs, run_from, RunsTo}
 
 -- ---- pairs in a list
@@ -58,9 +59,9 @@ Listed-insert_if false p r others after q later (inl e) = inr (later (inl e))
 Listed-insert_if false p r others after q later (inr (inl e)) = inl e
 Listed-insert_if false p r others after q later (inr (inr k)) = inr (later (inr k))
 
-Listed-insert : (order : Term → Term → Ordering) (p : Pair) (pairs : List Pair) (q : Pair) → (p ≡ q) ⊎ Listed pairs q → Listed (insert_pair order p pairs) q
-Listed-insert order p [] q h = h
-Listed-insert order p (r ∷ others) q h = Listed-insert_if _ p r others (insert_pair order p others) q (Listed-insert order p others q) h
+Listed-insert : (compare : Pair → Pair → Ordering) (p : Pair) (pairs : List Pair) (q : Pair) → (p ≡ q) ⊎ Listed pairs q → Listed (insert_pair compare p pairs) q
+Listed-insert compare p [] q h = h
+Listed-insert compare p (r ∷ others) q h = Listed-insert_if _ p r others (insert_pair compare p others) q (Listed-insert compare p others q) h
 
 from_insert_if : (b : Bool) (p r : Pair) (others after : List Pair) (q : Pair) → (Listed after q → (p ≡ q) ⊎ Listed others q)
     → Listed (if b then (p ∷ r ∷ others) else (r ∷ after)) q → (p ≡ q) ⊎ Listed (r ∷ others) q
@@ -69,23 +70,23 @@ from_insert_if false p r others after q later (inl e) = inr (inl e)
 from_insert_if false p r others after q later (inr k) =
     elim (later k) as (λ x. (p ≡ q) ⊎ Listed (r ∷ others) q) [ inl e ↦ inl e | inr l ↦ inr (inr l) ]
 
-pub from_insert : (order : Term → Term → Ordering) (p : Pair) (pairs : List Pair) (q : Pair) → Listed (insert_pair order p pairs) q → (p ≡ q) ⊎ Listed pairs q
-from_insert order p [] q h = h
-from_insert order p (r ∷ others) q h = from_insert_if _ p r others (insert_pair order p others) q (from_insert order p others q) h
+pub from_insert : (compare : Pair → Pair → Ordering) (p : Pair) (pairs : List Pair) (q : Pair) → Listed (insert_pair compare p pairs) q → (p ≡ q) ⊎ Listed pairs q
+from_insert compare p [] q h = h
+from_insert compare p (r ∷ others) q h = from_insert_if _ p r others (insert_pair compare p others) q (from_insert compare p others q) h
 
-Listed-insert_pairs : (order : Term → Term → Ordering) (more pairs : List Pair) (q : Pair) → Listed more q ⊎ Listed pairs q → Listed (insert_pairs order more pairs) q
-Listed-insert_pairs order [] pairs q (inl h) = absurd h
-Listed-insert_pairs order [] pairs q (inr h) = h
-Listed-insert_pairs order (p ∷ more) pairs q (inl (inl e)) = Listed-insert_pairs order more (insert_pair order p pairs) q (inr (Listed-insert order p pairs q (inl e)))
-Listed-insert_pairs order (p ∷ more) pairs q (inl (inr k)) = Listed-insert_pairs order more (insert_pair order p pairs) q (inl k)
-Listed-insert_pairs order (p ∷ more) pairs q (inr h) = Listed-insert_pairs order more (insert_pair order p pairs) q (inr (Listed-insert order p pairs q (inr h)))
+Listed-insert_pairs : (compare : Pair → Pair → Ordering) (more pairs : List Pair) (q : Pair) → Listed more q ⊎ Listed pairs q → Listed (insert_pairs compare more pairs) q
+Listed-insert_pairs compare [] pairs q (inl h) = absurd h
+Listed-insert_pairs compare [] pairs q (inr h) = h
+Listed-insert_pairs compare (p ∷ more) pairs q (inl (inl e)) = Listed-insert_pairs compare more (insert_pair compare p pairs) q (inr (Listed-insert compare p pairs q (inl e)))
+Listed-insert_pairs compare (p ∷ more) pairs q (inl (inr k)) = Listed-insert_pairs compare more (insert_pair compare p pairs) q (inl k)
+Listed-insert_pairs compare (p ∷ more) pairs q (inr h) = Listed-insert_pairs compare more (insert_pair compare p pairs) q (inr (Listed-insert compare p pairs q (inr h)))
 
-pub from_insert_pairs : (order : Term → Term → Ordering) (more pairs : List Pair) (q : Pair) → Listed (insert_pairs order more pairs) q → Listed more q ⊎ Listed pairs q
-from_insert_pairs order [] pairs q h = inr h
-from_insert_pairs order (p ∷ more) pairs q h =
-    elim (from_insert_pairs order more (insert_pair order p pairs) q h) as (λ x. Listed (p ∷ more) q ⊎ Listed pairs q) [
+pub from_insert_pairs : (compare : Pair → Pair → Ordering) (more pairs : List Pair) (q : Pair) → Listed (insert_pairs compare more pairs) q → Listed more q ⊎ Listed pairs q
+from_insert_pairs compare [] pairs q h = inr h
+from_insert_pairs compare (p ∷ more) pairs q h =
+    elim (from_insert_pairs compare more (insert_pair compare p pairs) q h) as (λ x. Listed (p ∷ more) q ⊎ Listed pairs q) [
       | inl k ↦ inl (inr k)
-      | inr k ↦ elim (from_insert order p pairs q k) as (λ x. Listed (p ∷ more) q ⊎ Listed pairs q) [ inl e ↦ inl (inl e) | inr l ↦ inr l ]
+      | inr k ↦ elim (from_insert compare p pairs q k) as (λ x. Listed (p ∷ more) q ⊎ Listed pairs q) [ inl e ↦ inl (inl e) | inr l ↦ inr l ]
     ]
 
 -- ---- the pairs of a new element
@@ -271,37 +272,37 @@ added_state order variables Pending generators added elements v s is_monic membe
     }
 
 -- an element is added, and a pair that it settles is no longer pending
-added_settling : (order : Term → Term → Ordering) (variables : ℕ) (pair : Pair) (others : List Pair) (generators added elements : List ModuleVector) (v : ModuleVector)
+added_settling : (order : Term → Term → Ordering) (compare : Pair → Pair → Ordering) (variables : ℕ) (pair : Pair) (others : List Pair) (generators added elements : List ModuleVector) (v : ModuleVector)
     → IsRunState order variables (Listed (pair ∷ others)) generators added elements → IsMonicVector order variables v → IsMember variables generators v
     → ((i j : ℕ) → j < length (elements ++ v ∷ []) → pair ≡ pair_at (elements ++ v ∷ []) i j
     → HasStandardRepresentation order variables (elements ++ v ∷ []) (get_or (elements ++ v ∷ []) i []) (get_or (elements ++ v ∷ []) j []))
-    → IsRunState order variables (Listed (insert_pairs order (formed_pairs elements v) others)) generators added (elements ++ v ∷ [])
+    → IsRunState order variables (Listed (insert_pairs compare (formed_pairs elements v) others)) generators added (elements ++ v ∷ [])
 unfolding PendingWith
-added_settling order variables pair others generators added elements v s is_monic member settles =
-    with_pending order variables (PendingWith (formed_pairs elements v) (Listed (pair ∷ others))) (Listed (insert_pairs order (formed_pairs elements v) others)) generators added (elements ++ v ∷ [])
+added_settling order compare variables pair others generators added elements v s is_monic member settles =
+    with_pending order variables (PendingWith (formed_pairs elements v) (Listed (pair ∷ others))) (Listed (insert_pairs compare (formed_pairs elements v) others)) generators added (elements ++ v ∷ [])
     (added_state order variables (Listed (pair ∷ others)) generators added elements v s is_monic member)
-    (λ q h. elim (from_insert_pairs order (formed_pairs elements v) others q h) as (λ x. Listed (formed_pairs elements v) q ⊎ Listed (pair ∷ others) q) [ inl k ↦ inl k | inr k ↦ inr (inr k) ])
+    (λ q h. elim (from_insert_pairs compare (formed_pairs elements v) others q h) as (λ x. Listed (formed_pairs elements v) q ⊎ Listed (pair ∷ others) q) [ inl k ↦ inl k | inr k ↦ inr (inr k) ])
     (λ i j within h.
     let more = elements ++ v ∷ [] in
     let settled = settles i j within in
-    elim h as (λ x. Listed (insert_pairs order (formed_pairs elements v) others) (pair_at more i j) ⊎ HasStandardRepresentation order variables more (get_or more i []) (get_or more j [])) [
-      | inl k ↦ inl (Listed-insert_pairs order (formed_pairs elements v) others (pair_at more i j) (inl k))
+    elim h as (λ x. Listed (insert_pairs compare (formed_pairs elements v) others) (pair_at more i j) ⊎ HasStandardRepresentation order variables more (get_or more i []) (get_or more j [])) [
+      | inl k ↦ inl (Listed-insert_pairs compare (formed_pairs elements v) others (pair_at more i j) (inl k))
       | inr (inl is) ↦ inr (settled is)
-      | inr (inr k) ↦ inl (Listed-insert_pairs order (formed_pairs elements v) others (pair_at more i j) (inr k))
+      | inr (inr k) ↦ inl (Listed-insert_pairs compare (formed_pairs elements v) others (pair_at more i j) (inr k))
     ])
 
 -- ---- a pair is taken
 
 -- what `with_element` gives, where it gives a state
 pub with_element_some : (order : Term → Term → Ordering) (limit : ℕ) (state : RunState) (v : ModuleVector) (next : RunState) → with_element order limit state v ≡ Some next
-    → (next.elements ≡ state.elements ++ v ∷ []) × (next.pairs ≡ insert_pairs order (formed_pairs state.elements v) state.pairs)
+    → (next.elements ≡ state.elements ++ v ∷ []) × (next.pairs ≡ insert_pairs (compare_pairs order state.by) (formed_pairs state.elements v) state.pairs)
 with_element_some order limit state v next e =
     elim (has_pair_over limit (pairs_with (length state.elements + 1) (lead v) 1 state.elements)) as (λ b.
-    (if b then None else Some (record { elements = state.elements ++ v ∷ []; pairs = insert_pairs order (pairs_with (length state.elements + 1) (lead v) 1 state.elements) state.pairs; taken = state.taken })) ≡ Some next
-    → (next.elements ≡ state.elements ++ v ∷ []) × (next.pairs ≡ insert_pairs order (pairs_with (length state.elements + 1) (lead v) 1 state.elements) state.pairs)) [
+    (if b then None else Some (record { by = state.by; elements = state.elements ++ v ∷ []; pairs = insert_pairs (compare_pairs order state.by) (pairs_with (length state.elements + 1) (lead v) 1 state.elements) state.pairs; taken = state.taken })) ≡ Some next
+    → (next.elements ≡ state.elements ++ v ∷ []) × (next.pairs ≡ insert_pairs (compare_pairs order state.by) (pairs_with (length state.elements + 1) (lead v) 1 state.elements) state.pairs)) [
       | true ↦ λ k. cc
       | false ↦ λ k.
-          let is : record { elements = state.elements ++ v ∷ []; pairs = insert_pairs order (pairs_with (length state.elements + 1) (lead v) 1 state.elements) state.pairs; taken = state.taken } ≡ next = cc in
+          let is : record { by = state.by; elements = state.elements ++ v ∷ []; pairs = insert_pairs (compare_pairs order state.by) (pairs_with (length state.elements + 1) (lead v) 1 state.elements) state.pairs; taken = state.taken } ≡ next = cc in
           (sym (ap (λ (s : RunState). s.elements) is), sym (ap (λ (s : RunState). s.pairs) is))
     ] e
 
@@ -414,7 +415,7 @@ module _ {variables : ℕ} {order : Term → Term → Ordering} {high : ℕ → 
             in
             let grown = with_element_some order limit (without_pair others state) new next (step_next _ next k) in
             rw (grown.0, grown.1)
-            (added_settling order variables pair others generators added elements new s is_monic member
+            (added_settling order (compare_pairs order state.by) variables pair others generators added elements new s is_monic member
             (λ i j within same.
             let more = elements ++ new ∷ [] in
             let places = same_places elements more p.i p.j i j (sym p.is ∙ same) in
@@ -580,9 +581,9 @@ module _ {variables : ℕ} {order : Term → Term → Ordering} {high : ℕ → 
       let member = Member-monic_of variables (IsMember variables generators) submodule laws g (IsMember-generator variables generators g is.0 is.1.terms) in
       let with_new = added_state order variables (Listed state.pairs) generators added elements new s is_monic member in
       let all =
-      with_pending order variables (PendingWith (formed_pairs elements new) (Listed state.pairs)) (Listed (insert_pairs order (formed_pairs elements new) state.pairs)) generators added more
-      with_new (λ q h. from_insert_pairs order (formed_pairs elements new) state.pairs q h)
-      (λ i j within h. inl (Listed-insert_pairs order (formed_pairs elements new) state.pairs (pair_at more i j) h))
+      with_pending order variables (PendingWith (formed_pairs elements new) (Listed state.pairs)) (Listed (insert_pairs (compare_pairs order state.by) (formed_pairs elements new) state.pairs)) generators added more
+      with_new (λ q h. from_insert_pairs (compare_pairs order state.by) (formed_pairs elements new) state.pairs q h)
+      (λ i j within h. inl (Listed-insert_pairs (compare_pairs order state.by) (formed_pairs elements new) state.pairs (pair_at more i j) h))
       in
       let generated : IsMember variables more g =
       Member-from_monic_of variables (IsMember variables more) (IsSubmodule-IsMember variables more) laws g is.1.canonical is.2
@@ -624,13 +625,13 @@ module _ {variables : ℕ} {order : Term → Term → Ordering} {high : ℕ → 
         proper = λ q h. absurd h;
       }
 
-  run_from_done : (generators : List ModuleVector) (limit steps budget : ℕ) (start : Option RunState) → opening order limit generators ≡ start → All (IsGenerator generators) generators
+  run_from_done : (generators : List ModuleVector) (by : PairOrder) (limit steps budget : ℕ) (start : Option RunState) → opening order by limit generators ≡ start → All (IsGenerator generators) generators
       → (list : List ModuleVector) (taken : ℕ) → run_from order limit steps budget start ≡ Some (Done list taken) → IsDone generators generators list
-  run_from_done generators limit steps budget None opens good list taken e = cc
-  run_from_done generators limit steps budget (Some state) opens good list taken e =
+  run_from_done generators by limit steps budget None opens good list taken e = cc
+  run_from_done generators by limit steps budget (Some state) opens good list taken e =
       run_done generators generators limit steps budget (pairs_left state) state
       (undropped_state generators generators state.elements state.pairs
-      (opening_state generators limit generators [] (recursion_from_All (IsGenerator generators) generators good) (record { elements = []; pairs = []; taken = 0 }) (empty_state generators) state opens))
+      (opening_state generators limit generators [] (recursion_from_All (IsGenerator generators) generators good) (record { by = by; elements = []; pairs = []; taken = 0 }) (empty_state generators) state opens))
       list taken e
 
   pair_reduces : (list : List ModuleVector) → ((i j : ℕ) → i < j → j < length list → (lead (get_or list i [])).0 ≡ (lead (get_or list j [])).0
@@ -665,24 +666,24 @@ module _ {variables : ℕ} {order : Term → Term → Ordering} {high : ℕ → 
       }
 
   run_is_done : (generators : List ModuleVector) → All (IsVector order variables) generators → All (λ g. g ≢ []) generators
-      → (limit budget : ℕ) (list : List ModuleVector) (taken : ℕ) → RunsTo order limit generators budget (Done list taken) → IsDone generators generators list
+      → (by : PairOrder) (limit budget : ℕ) (list : List ModuleVector) (taken : ℕ) → RunsTo order by limit generators budget (Done list taken) → IsDone generators generators list
   unfolding IsGenerator
-  run_is_done generators vectors not_zero limit budget list taken run =
-      run_from_done generators limit run.steps budget (opening order limit generators) refl
+  run_is_done generators vectors not_zero by limit budget list taken run =
+      run_from_done generators by limit run.steps budget (opening order by limit generators) refl
       (All-weaker (Contains generators) (λ g. Contains generators g × IsVector order variables g × (g ≢ []))
       (λ g c. (c, All-contains (IsVector order variables) generators g vectors c, All-contains (λ g. g ≢ []) generators g not_zero c)) generators (All-contains_itself generators))
       list taken run.ends
 
   -- The list of a done run: its vectors are monic and in the module of the generators, which are in its own.
   pub run_monic : (generators : List ModuleVector) → All (IsVector order variables) generators → All (λ g. g ≢ []) generators
-      → (limit budget : ℕ) (list : List ModuleVector) (taken : ℕ) → RunsTo order limit generators budget (Done list taken) → All (IsMonicVector order variables) list
-  run_monic generators vectors not_zero limit budget list taken run = (run_is_done generators vectors not_zero limit budget list taken run).monic
+      → (by : PairOrder) (limit budget : ℕ) (list : List ModuleVector) (taken : ℕ) → RunsTo order by limit generators budget (Done list taken) → All (IsMonicVector order variables) list
+  run_monic generators vectors not_zero by limit budget list taken run = (run_is_done generators vectors not_zero by limit budget list taken run).monic
 
   -- The list of a done run is a Groebner basis of the module that the generators generate.
   pub run_groebner : (generators : List ModuleVector) → All (IsVector order variables) generators → All (λ g. g ≢ []) generators
-      → (limit budget : ℕ) (list : List ModuleVector) (taken : ℕ) → RunsTo order limit generators budget (Done list taken) → IsGroebnerBasis order (IsMember variables generators) list
-  run_groebner generators vectors not_zero limit budget list taken run =
-      let done = run_is_done generators vectors not_zero limit budget list taken run in
+      → (by : PairOrder) (limit budget : ℕ) (list : List ModuleVector) (taken : ℕ) → RunsTo order by limit generators budget (Done list taken) → IsGroebnerBasis order (IsMember variables generators) list
+  run_groebner generators vectors not_zero by limit budget list taken run =
+      let done = run_is_done generators vectors not_zero by limit budget list taken run in
       let basis = buchberger laws list done.monic (AllPairsReduce-from_places list done.settled) in
       record {
         members = done.members;
@@ -754,20 +755,20 @@ module _ {variables : ℕ} {order : Term → Term → Ordering} {high : ℕ → 
       ] taken.2
 
   -- The run of generators that are not zero ends.
-  pub run_ends : (generators : List ModuleVector) → All (IsVector order variables) generators → All (λ g. g ≢ []) generators → (limit budget : ℕ)
-      → (end : RunEnd) × RunsTo order limit generators budget end
+  pub run_ends : (generators : List ModuleVector) → All (IsVector order variables) generators → All (λ g. g ≢ []) generators → (by : PairOrder) (limit budget : ℕ)
+      → (end : RunEnd) × RunsTo order by limit generators budget end
   unfolding IsGenerator Ended
-  run_ends generators vectors not_zero limit budget =
+  run_ends generators vectors not_zero by limit budget =
       let good =
       All-weaker (Contains generators) (λ g. Contains generators g × IsVector order variables g × (g ≢ []))
       (λ g c. (c, All-contains (IsVector order variables) generators g vectors c, All-contains (λ g. g ≢ []) generators g not_zero c)) generators (All-contains_itself generators)
       in
-      elim (opening order limit generators) as (λ start. opening order limit generators ≡ start → (end : RunEnd) × RunsTo order limit generators budget end) [
+      elim (opening order by limit generators) as (λ start. opening order by limit generators ≡ start → (end : RunEnd) × RunsTo order by limit generators budget end) [
         | None ↦ λ e. (DegreeOver, record { steps = 0; ends = ap (run_from order limit 0 budget) e })
         | Some state ↦ λ e.
             let start =
             opening_state generators limit generators [] (recursion_from_All (λ g. Contains generators g × IsVector order variables g × (g ≢ [])) generators good)
-            (record { elements = []; pairs = []; taken = 0 }) (empty_state generators) state e
+            (record { by = by; elements = []; pairs = []; taken = 0 }) (empty_state generators) state e
             in
             let rest = pairs_end generators generators limit budget (pairs_left state) state (undropped_state generators generators state.elements state.pairs start) in
             (rest.1, record { steps = rest.0; ends = ap (run_from order limit rest.0 budget) e ∙ rest.2 })

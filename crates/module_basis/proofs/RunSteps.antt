@@ -3,6 +3,7 @@ use Rattle.std.proofs.Common.{◌≡◌, ◌≢◌, ℕ, suc, ◌+◌, ◌-◌, 
 use Rattle.std.specs.declared.cmp.Ordering.{Ordering}
 use Rattle.mono_order.specs.Term.{Term}
 use Rattle.module_vec.specs.ModuleVector.{ModuleVector}
+use Rattle.pair_queue.specs.declared.order.PairOrder.{PairOrder}
 use Rattle.pair_queue.specs.declared.queue.Pair.{Pair}
 use Rattle.module_basis.specs.PlainRun.{RunState, run_state, pairs_left, RunEnd, Done, PairsSpent, DegreeOver, Step, Next, Over, take_pair, without_pair, TakesPair, after_step, run_pairs, run_from, opening, RunsTo}
 use Rattle.module_basis.proofs.RunEnds.{take_pair-more, run_pairs-more}
@@ -18,9 +19,9 @@ pub record TakesFirst (order : Term → Term → Ordering) (limit : ℕ) (state 
 
 -- where it was taken off the list of pairs before
 pub TakesFirst-from_pair : (order : Term → Term → Ordering) (limit : ℕ) (state after : RunState) (pair : Pair) (step : Step) → pairs_left state ≡ pair ∷ after.pairs
-    → after.elements ≡ state.elements → after.taken ≡ state.taken → TakesPair order limit pair after step → TakesFirst order limit state step
-TakesFirst-from_pair order limit state after pair step left elements taken h =
-    let same : without_pair after.pairs after ≡ without_pair after.pairs state = (λ i. run_state (elements i) after.pairs (taken i + 1)) in
+    → after.by ≡ state.by → after.elements ≡ state.elements → after.taken ≡ state.taken → TakesPair order limit pair after step → TakesFirst order limit state step
+TakesFirst-from_pair order limit state after pair step left by elements taken h =
+    let same : without_pair after.pairs after ≡ without_pair after.pairs state = (λ i. run_state (by i) (elements i) after.pairs (taken i + 1)) in
     record { steps = h.steps; pair = pair; others = after.pairs; left = left; takes = ap (take_pair order limit h.steps pair) (sym same) ∙ h.takes }
 
 -- the run goes on from this state, with a budget of so many more pairs, and ends so
@@ -28,9 +29,9 @@ pub record RunsFrom (order : Term → Term → Ordering) (limit : ℕ) (budget :
   pub steps : ℕ
   pub ends : run_pairs order limit steps budget (pairs_left state) state ≡ Some end
 
-module _ (order : Term → Term → Ordering) (limit : ℕ) where
-  pub RunsTo-opened : (generators : List ModuleVector) (budget : ℕ) (state : RunState) → opening order limit generators ≡ Some state → (end : RunEnd)
-      → RunsFrom order limit budget state end → RunsTo order limit generators budget end
+module _ (order : Term → Term → Ordering) (by : PairOrder) (limit : ℕ) where
+  pub RunsTo-opened : (generators : List ModuleVector) (budget : ℕ) (state : RunState) → opening order by limit generators ≡ Some state → (end : RunEnd)
+      → RunsFrom order limit budget state end → RunsTo order by limit generators budget end
   RunsTo-opened generators budget state e end h = record { steps = h.steps; ends = ap (run_from order limit h.steps budget) e ∙ h.ends }
 
   -- no pair is left, once the criterion has dropped what it drops
@@ -70,11 +71,11 @@ module _ (order : Term → Term → Ordering) (limit : ℕ) where
   pub record IsUnderWay (generators : List ModuleVector) (budget : ℕ) (state : RunState) : Type 0 where
     pub taken : state.taken ≤ budget
     pub few : length state.elements ≤ length generators + state.taken
-    pub ends : (end : RunEnd) → RunsFrom order limit (budget - state.taken) state end → RunsTo order limit generators budget end
+    pub ends : (end : RunEnd) → RunsFrom order limit (budget - state.taken) state end → RunsTo order by limit generators budget end
 
-  pub IsUnderWay-opened : (generators : List ModuleVector) (budget : ℕ) (state : RunState) → opening order limit generators ≡ Some state → IsUnderWay generators budget state
+  pub IsUnderWay-opened : (generators : List ModuleVector) (budget : ℕ) (state : RunState) → opening order by limit generators ≡ Some state → IsUnderWay generators budget state
   IsUnderWay-opened generators budget state e =
-      let counts = opening-counts order limit generators state e in
+      let counts = opening-counts order by limit generators state e in
       let whole : budget - state.taken ≡ budget = omega (arith, counts.1) in
       record {
         taken = omega (arith, counts.1);
@@ -94,13 +95,13 @@ module _ (order : Term → Term → Ordering) (limit : ℕ) where
       }
 
   pub IsUnderWay-stopped : (generators : List ModuleVector) (budget : ℕ) (state : RunState) → IsUnderWay generators budget state → state.taken ≢ budget
-      → TakesFirst order limit state Over → RunsTo order limit generators budget DegreeOver
+      → TakesFirst order limit state Over → RunsTo order by limit generators budget DegreeOver
   IsUnderWay-stopped generators budget state u apart h =
       let one_less : suc (budget - (state.taken + 1)) ≡ budget - state.taken = omega (arith, u.taken, apart) in
       u.ends DegreeOver (subst (λ b. RunsFrom order limit b state DegreeOver) one_less (RunsFrom-stopped (budget - (state.taken + 1)) state h))
 
   pub IsUnderWay-spent : (generators : List ModuleVector) (budget : ℕ) (state : RunState) → IsUnderWay generators budget state → state.taken ≡ budget → pairs_left state ≢ []
-      → RunsTo order limit generators budget PairsSpent
+      → RunsTo order by limit generators budget PairsSpent
   IsUnderWay-spent generators budget state u same left =
       let none : 0 ≡ budget - state.taken = omega (arith, same) in
       u.ends PairsSpent (subst (λ b. RunsFrom order limit b state PairsSpent) none (spent_at state (pairs_left state) refl left))
@@ -110,5 +111,5 @@ module _ (order : Term → Term → Ordering) (limit : ℕ) where
       spent_at state (pair ∷ others) e h = RunsFrom-spent state pair others e
 
   pub IsUnderWay-done : (generators : List ModuleVector) (budget : ℕ) (state : RunState) → IsUnderWay generators budget state → pairs_left state ≡ []
-      → RunsTo order limit generators budget (Done state.elements state.taken)
+      → RunsTo order by limit generators budget (Done state.elements state.taken)
   IsUnderWay-done generators budget state u none = u.ends (Done state.elements state.taken) (RunsFrom-done (budget - state.taken) state none)

@@ -1,16 +1,17 @@
--- The degrees of an S-vector, the two elements of a pair, and the list of a done run.
-use Rattle.std.proofs.Common.{◌≡◌, ◌≢◌, ℕ, ◌+◌, ◌-◌, ◌<◌, Bool, true, false, ◌||◌, length, get_or, List, [], sym, refl, ap, ◌∙◌, arith}
+-- The degrees of an S-vector, the two elements of a pair, the list of a done run, and a pair that is taken.
+use Rattle.std.proofs.Common.{◌≡◌, ◌≢◌, ℕ, ◌+◌, ◌-◌, ◌<◌, ◌⊎◌, inl, inr, Bool, true, false, ◌||◌, if◌then◌else◌, Option, Some, length, get_or, List, [], ◌∷◌, sym, refl, ap, ◌∙◌, arith}
 use Rattle.std.specs.List.{All, Contains}
 use Rattle.std.specs.declared.cmp.Ordering.{Ordering}
 use Rattle.std.proofs.lemmas.List.Elements.{All-contains, All-weaker, All-contains_itself}
 use Rattle.mono_order.specs.Term.{Term, lcm_term}
 use Rattle.mono_order.specs.TermOrder.{IsTermOrder}
+use Rattle.pair_queue.specs.declared.order.PairOrder.{PairOrder}
 use Rattle.pair_queue.specs.declared.queue.Pair.{Pair}
 use Rattle.module_vec.specs.ModuleVector.{ModuleVector, lead, IsVector, IsMonicVector, IsMember, multiple_value}
-use Rattle.module_vec.specs.Division.{is_over_degree, is_s_vector_over, multiple_with_lead}
+use Rattle.module_vec.specs.Division.{Remainder, OverDegree, divide, DividesTo, is_over_degree, is_s_vector_over, monic_of, multiple_with_lead, s_vector}
 use Rattle.module_vec.proofs.Submodules.{IsMember-generator, IsMember-least, IsSubmodule-IsMember}
 use Rattle.module_division.proofs.SVectors.{lcm_within}
-use Rattle.module_basis.specs.PlainRun.{is_pair_over, pair_at, IsProper, RunsTo, Done}
+use Rattle.module_basis.specs.PlainRun.{RunState, Step, Next, Over, step_to, with_element, with_remainder, element, without_pair, TakesPair, is_pair_over, pair_at, IsProper, RunsTo, Done}
 use Rattle.module_basis.specs.GroebnerBasis.{IsGroebnerBasis}
 use Rattle.module_basis.proofs.RunLaws.{run_groebner, run_monic}
 
@@ -78,10 +79,10 @@ module _ {variables : ℕ} {order : Term → Term → Ordering} {high : ℕ → 
     (laws : IsTermOrder variables order high height bound) where
   -- is a Groebner basis of the module that it generates itself
   pub run_own_basis : (generators : List ModuleVector) → All (IsVector order variables) generators → All (λ g. g ≢ []) generators
-      → (limit budget : ℕ) (list : List ModuleVector) (taken : ℕ) → RunsTo order limit generators budget (Done list taken) → IsGroebnerBasis order (IsMember variables list) list
-  run_own_basis generators vectors not_zero limit budget list taken run =
-      let basis = run_groebner laws generators vectors not_zero limit budget list taken run in
-      let monic = run_monic laws generators vectors not_zero limit budget list taken run in
+      → (by : PairOrder) (limit budget : ℕ) (list : List ModuleVector) (taken : ℕ) → RunsTo order by limit generators budget (Done list taken) → IsGroebnerBasis order (IsMember variables list) list
+  run_own_basis generators vectors not_zero by limit budget list taken run =
+      let basis = run_groebner laws generators vectors not_zero by limit budget list taken run in
+      let monic = run_monic laws generators vectors not_zero by limit budget list taken run in
       record {
         members = All-weaker (Contains list) (IsMember variables list) (λ g c. IsMember-generator variables list g c (All-contains (IsMonicVector order variables) list g monic c).terms) list (All-contains_itself list);
         divisible = λ v canonical v_not_zero member.
@@ -89,3 +90,42 @@ module _ {variables : ℕ} {order : Term → Term → Ordering} {high : ℕ → 
             (IsMember-least variables list (IsMember variables generators) (IsSubmodule-IsMember variables generators)
             (λ g c. All-contains (IsMember variables generators) list g basis.members c) v member);
       }
+
+-- ---- a pair is taken
+
+pub TakesPair-over : (order : Term → Term → Ordering) (limit : ℕ) (pair : Pair) (state : RunState)
+    → (is_pair_over limit (element state pair.first) (element state pair.second) pair.lcm ≡ true)
+    ⊎ ((is_pair_over limit (element state pair.first) (element state pair.second) pair.lcm ≡ false)
+    × DividesTo order limit state.elements (s_vector order (element state pair.first) (element state pair.second)) OverDegree)
+    → TakesPair order limit pair state Over
+TakesPair-over order limit pair state (inl over) =
+    let rest = divide order limit state.elements 0 (s_vector order (element state pair.first) (element state pair.second)) in
+    record { steps = 0; takes = ap (λ b. if b then Some Over else with_remainder order limit (without_pair state.pairs state) rest) over }
+TakesPair-over order limit pair state (inr h) =
+    let rest = divide order limit state.elements h.1.steps (s_vector order (element state pair.first) (element state pair.second)) in
+    record {
+      steps = h.1.steps;
+      takes = ap (λ b. if b then Some Over else with_remainder order limit (without_pair state.pairs state) rest) h.0
+          ∙ ap (with_remainder order limit (without_pair state.pairs state)) h.1.ends;
+    }
+
+pub TakesPair-remainder : (order : Term → Term → Ordering) (limit : ℕ) (pair : Pair) (state : RunState) (r : ModuleVector) (step : Step)
+    → is_pair_over limit (element state pair.first) (element state pair.second) pair.lcm ≡ false
+    → DividesTo order limit state.elements (s_vector order (element state pair.first) (element state pair.second)) (Remainder r)
+    → with_remainder order limit (without_pair state.pairs state) (Some (Remainder r)) ≡ Some step → TakesPair order limit pair state step
+TakesPair-remainder order limit pair state r step within d e =
+    let rest = divide order limit state.elements d.steps (s_vector order (element state pair.first) (element state pair.second)) in
+    record {
+      steps = d.steps;
+      takes = ap (λ b. if b then Some Over else with_remainder order limit (without_pair state.pairs state) rest) within
+          ∙ (ap (with_remainder order limit (without_pair state.pairs state)) d.ends ∙ e);
+    }
+
+-- the remainder is zero, or it is added
+pub zero_remainder : (order : Term → Term → Ordering) (limit : ℕ) (state : RunState) (r : ModuleVector) → r ≡ [] → with_remainder order limit state (Some (Remainder r)) ≡ Some (Next state)
+zero_remainder order limit state r e = ap (λ (v : ModuleVector). with_remainder order limit state (Some (Remainder v))) e
+
+pub added_remainder : (order : Term → Term → Ordering) (limit : ℕ) (state : RunState) (r : ModuleVector) (found : Option RunState) → r ≢ [] → with_element order limit state (monic_of order r) ≡ found
+    → with_remainder order limit state (Some (Remainder r)) ≡ Some (step_to found)
+added_remainder order limit state [] found not_zero e = absurd (not_zero refl)
+added_remainder order limit state (t ∷ r) found not_zero e = ap (λ x. Some (step_to x)) e

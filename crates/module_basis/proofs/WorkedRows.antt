@@ -5,7 +5,8 @@ use Rattle.mono_order.specs.declared.limits.TheConstants.{RUN_DEGREE}
 use Rattle.mono_order.specs.TermOrder.{zero_dominates}
 use Rattle.module_vec.specs.ModuleVector.{ModuleVector}
 use Rattle.module_vec.specs.Division.{Remainder, OverDegree, divide, s_vector}
-use Rattle.pair_queue.specs.Pairs.{insert_pairs}
+use Rattle.pair_queue.specs.declared.order.PairOrder.TheVariants.{Terms, Degrees}
+use Rattle.pair_queue.specs.Pairs.{compare_pairs, insert_pairs}
 use Rattle.module_basis.specs.PlainRun.{pairs_with, is_dropped, undropped}
 
 g1 : ModuleVector
@@ -47,10 +48,15 @@ over : divide zero_dominates RUN_DEGREE ((((0, 1 ∷ 0 ∷ []), 1) ∷ ((1, 0 �
 over = refl
 
 -- the pair of the second and third element comes last, by its second number
-first_pairs : insert_pairs zero_dominates (pairs_with 3 (0, 1 ∷ 0 ∷ []) 1 (g1 ∷ g2 ∷ [])) (pairs_with 2 (0, 0 ∷ 0 ∷ []) 1 (g1 ∷ []))
+first_pairs : insert_pairs (compare_pairs zero_dominates Terms) (pairs_with 3 (0, 1 ∷ 0 ∷ []) 1 (g1 ∷ g2 ∷ [])) (pairs_with 2 (0, 0 ∷ 0 ∷ []) 1 (g1 ∷ []))
     ≡ record { first = 1; second = 2; lcm = (0, 1 ∷ 0 ∷ []) } ∷ record { first = 1; second = 3; lcm = (0, 1 ∷ 0 ∷ []) } ∷ record { first = 2; second = 3; lcm = (0, 1 ∷ 0 ∷ []) } ∷ []
 unfolding g1 g2
 first_pairs = refl
+
+-- by degrees a pair at component 0 goes before one at component 2 where its degree is less; by terms it is the other way
+by_degrees : insert_pairs (compare_pairs zero_dominates (Degrees (0 ∷ 0 ∷ 1 ∷ []))) (record { first = 1; second = 3; lcm = (0, 0 ∷ 2 ∷ []) } ∷ record { first = 2; second = 4; lcm = (2, 1 ∷ 1 ∷ []) } ∷ []) []
+    ≡ record { first = 1; second = 3; lcm = (0, 0 ∷ 2 ∷ []) } ∷ record { first = 2; second = 4; lcm = (2, 1 ∷ 1 ∷ []) } ∷ []
+by_degrees = refl
 
 -- it is dropped through the first element, and the pair of the fourth and fifth element, which has the next place, is not
 next_pairs : undropped (g1 ∷ g2 ∷ g3 ∷ g4 ∷ g5 ∷ [])

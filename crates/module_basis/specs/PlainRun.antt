@@ -1,5 +1,5 @@
 -- The plain run: Buchberger's algorithm with the chain criterion, a budget of pairs and a limit on degrees.
---     RunState                     the elements, the pairs that are left, in their order, and how many were taken
+--     RunState                     the order of pairs, the elements, the pairs that are left, in their order, and how many were taken
 --     with_element                 an element is added, with its pairs; None where one of these is over the limit
 --     opening                      the monic multiples of the generators are added in turn
 --     is_dropped                   the chain criterion drops the pair, through some other element
@@ -9,30 +9,32 @@
 --     IsProper                     the pair is one of two elements with leads in one component
 --     IsSoundState                 the elements are monic, and the pairs are proper
 --     TakesPair                    a pair is taken, and what follows
---     RunsTo                       the run of the generators with this budget ends so
+--     RunsTo                       the run of the generators, with this order of pairs and this budget, ends so
 -- Source: Buchberger's algorithm for submodules as in Using Algebraic Geometry of Cox, Little and O'Shea, and the chain
 -- criterion of Buchberger, "A criterion for detecting unnecessary reductions in the construction of Gröbner bases" (1979).
 use Rattle.std.specs.Prelude.{◌≡◌, ℕ, zero, suc, ◌+◌, ◌-◌, Bool, false, not, ◌&&◌, ◌||◌, if◌then◌else◌, nat_eq, nat_lt, sum, ◌<◌, Option, Some, None, length, get_or, List, [], ◌∷◌, ◌++◌}
 use Rattle.std.specs.List.{All, Contains}
 use Rattle.std.specs.declared.cmp.Ordering.{Ordering}
 use Rattle.mono_order.specs.Term.{Term, lcm_term, divides}
+use Rattle.pair_queue.specs.declared.order.PairOrder.{PairOrder}
 use Rattle.pair_queue.specs.declared.queue.Pair.{Pair}
-use Rattle.pair_queue.specs.Pairs.{insert_pair, insert_pairs, has_pair}
+use Rattle.pair_queue.specs.Pairs.{compare_pairs, insert_pair, insert_pairs, has_pair}
 use Rattle.module_vec.specs.ModuleVector.{ModuleVector, lead, multiple_value, IsMonicVector}
 use Rattle.module_vec.specs.Division.{Division, Remainder, OverDegree, divide, is_over_degree, monic_of, multiple_with_lead, s_vector}
 
 pub record RunState : Type 0 where
+  pub by : PairOrder
   pub elements : List ModuleVector
   pub pairs : List Pair
   pub taken : ℕ
 
-abbrev pub run_state : List ModuleVector → List Pair → ℕ → RunState
-run_state elements pairs taken = record { elements = elements; pairs = pairs; taken = taken }
+abbrev pub run_state : PairOrder → List ModuleVector → List Pair → ℕ → RunState
+run_state by elements pairs taken = record { by = by; elements = elements; pairs = pairs; taken = taken }
 
 -- each pair is new where the earlier ones are put
-abbrev pub AreNewPairs : (Term → Term → Ordering) → List Pair → List Pair → Type 0
-AreNewPairs order [] pairs = Unit {0}
-AreNewPairs order (pair ∷ more) pairs = (¬ (Contains pairs pair)) × AreNewPairs order more (insert_pair order pair pairs)
+abbrev pub AreNewPairs : (Pair → Pair → Ordering) → List Pair → List Pair → Type 0
+AreNewPairs compare [] pairs = Unit {0}
+AreNewPairs compare (pair ∷ more) pairs = (¬ (Contains pairs pair)) × AreNewPairs compare more (insert_pair compare pair pairs)
 
 -- the pairs of the element with the number `second` and this lead, with elements that are numbered from `first` on
 abbrev pub pairs_with : ℕ → Term → ℕ → List ModuleVector → List Pair
@@ -50,15 +52,15 @@ with_element order limit state v =
     let formed = pairs_with (length state.elements + 1) (lead v) 1 state.elements in
     if has_pair_over limit formed
     then None
-    else Some (record { elements = state.elements ++ v ∷ []; pairs = insert_pairs order formed state.pairs; taken = state.taken })
+    else Some (record { by = state.by; elements = state.elements ++ v ∷ []; pairs = insert_pairs (compare_pairs order state.by) formed state.pairs; taken = state.taken })
 
 abbrev pub with_generators : (Term → Term → Ordering) → ℕ → Option RunState → List ModuleVector → Option RunState
 with_generators order limit None generators = None
 with_generators order limit (Some state) [] = Some state
 with_generators order limit (Some state) (g ∷ generators) = with_generators order limit (with_element order limit state (monic_of order g)) generators
 
-abbrev pub opening : (Term → Term → Ordering) → ℕ → List ModuleVector → Option RunState
-opening order limit generators = with_generators order limit (Some (record { elements = []; pairs = []; taken = 0 })) generators
+abbrev pub opening : (Term → Term → Ordering) → PairOrder → ℕ → List ModuleVector → Option RunState
+opening order by limit generators = with_generators order limit (Some (record { by = by; elements = []; pairs = []; taken = 0 })) generators
 
 -- ---- what a run keeps
 
@@ -146,7 +148,7 @@ take_pair order limit steps pair state =
 
 -- the state when a pair is taken off
 abbrev pub without_pair : List Pair → RunState → RunState
-without_pair others state = record { elements = state.elements; pairs = others; taken = state.taken + 1 }
+without_pair others state = record { by = state.by; elements = state.elements; pairs = others; taken = state.taken + 1 }
 
 -- the pair, which is off the list of pairs, is taken, and the run goes on or stops so
 pub record TakesPair (order : Term → Term → Ordering) (limit : ℕ) (pair : Pair) (state : RunState) (step : Step) : Type 0 where
@@ -169,9 +171,9 @@ abbrev pub run_from : (Term → Term → Ordering) → ℕ → ℕ → ℕ → O
 run_from order limit steps budget None = Some DegreeOver
 run_from order limit steps budget (Some state) = run_pairs order limit steps budget (pairs_left state) state
 
-abbrev pub plain_run : (Term → Term → Ordering) → ℕ → ℕ → List ModuleVector → ℕ → Option RunEnd
-plain_run order limit steps generators budget = run_from order limit steps budget (opening order limit generators)
+abbrev pub plain_run : (Term → Term → Ordering) → PairOrder → ℕ → ℕ → List ModuleVector → ℕ → Option RunEnd
+plain_run order by limit steps generators budget = run_from order limit steps budget (opening order by limit generators)
 
-pub record RunsTo (order : Term → Term → Ordering) (limit : ℕ) (generators : List ModuleVector) (budget : ℕ) (end : RunEnd) : Type 0 where
+pub record RunsTo (order : Term → Term → Ordering) (by : PairOrder) (limit : ℕ) (generators : List ModuleVector) (budget : ℕ) (end : RunEnd) : Type 0 where
   pub steps : ℕ
-  pub ends : plain_run order limit steps generators budget ≡ Some end
+  pub ends : plain_run order by limit steps generators budget ≡ Some end

@@ -3,7 +3,7 @@ ghost use Rattle.std.specs.List.{All};
 ghost use Rattle.mono_order.specs.declared.limits.TheConstants.{RUN_DEGREE};
 ghost use Rattle.mono_order.specs.Term.{lcm_term};
 ghost use Rattle.module_vec.specs.ModuleVector.{IsMonic};
-ghost use Rattle.pair_queue.specs.Pairs.{insert_pairs};
+ghost use Rattle.pair_queue.specs.Pairs.{compare_pairs, insert_pairs};
 ghost use Rattle.module_basis.specs.PlainRun.{AreNewPairs, pairs_with, has_pair_over, undropped, is_dropped as is_dropped_of, is_dropped_through as is_dropped_through_of, is_left as is_left_of};
 
 use crate::fault::BasisFault;
@@ -64,8 +64,9 @@ pub(crate) fn push_all<O: TermOrder>(
     queue: &mut PairQueue<O>,
     pairs: &[Pair],
 ) -> Result<(), NoMemory>
-    requires { AreNewPairs O.order pairs.now queue.old }
-    ensures { OnOk result (queue.new ≡ insert_pairs O.order pairs.now queue.old) }
+    requires { AreNewPairs (compare_pairs O.order queue.old.by) pairs.now queue.old.pairs }
+    ensures added { OnOk result (queue.new.pairs ≡ insert_pairs (compare_pairs O.order queue.old.by) pairs.now queue.old.pairs) }
+    ensures by { OnOk result (queue.new.by ≡ queue.old.by) }
 {
     for pair in pairs {
         queue.push(*pair)?;
@@ -80,9 +81,10 @@ pub(crate) fn next_undropped<O: TermOrder>(
 ) -> Option<Pair>
     requires monic { All IsMonic elements.now }
     requires few { length elements.now < 2 ^ 32 }
-    ensures none { IsNone result ↔ (undropped elements.now pairs.old ≡ []) }
-    ensures first { IfSome result (λ pair. undropped elements.now pairs.old ≡ pair ∷ pairs.new) }
-    ensures empty { IfNone result (pairs.new ≡ []) }
+    ensures none { IsNone result ↔ (undropped elements.now pairs.old.pairs ≡ []) }
+    ensures first { IfSome result (λ pair. undropped elements.now pairs.old.pairs ≡ pair ∷ pairs.new.pairs) }
+    ensures empty { IfNone result (pairs.new.pairs ≡ []) }
+    ensures by { pairs.new.by ≡ pairs.old.by }
 {
     'pairs: while let Some(pair) = pairs.pop() {
         if !is_dropped(elements, pairs, &pair) {
@@ -96,7 +98,7 @@ pub(crate) fn next_undropped<O: TermOrder>(
 fn is_dropped<O: TermOrder>(elements: &[Vector<O>], pairs: &PairQueue<O>, pair: &Pair) -> bool
     requires monic { All IsMonic elements.now }
     requires few { length elements.now < 2 ^ 32 }
-    ensures { result ≡ is_dropped_of 1 elements.now pairs.now pair.now }
+    ensures { result ≡ is_dropped_of 1 elements.now pairs.now.pairs pair.now }
 {
     for (place, element) in elements.iter().enumerate() {
         if is_dropped_through(pairs, pair, place as u32 + 1, &element.lead_term()) {
@@ -114,7 +116,7 @@ fn is_dropped_through<O: TermOrder>(
     number: u32,
     lead: &Term,
 ) -> bool
-    ensures { result ≡ is_dropped_through_of pairs.now pair.now number lead.now }
+    ensures { result ≡ is_dropped_through_of pairs.now.pairs pair.now number lead.now }
 {
     number != pair.first
         && number != pair.second
@@ -125,7 +127,7 @@ fn is_dropped_through<O: TermOrder>(
 
 // Whether the pair of two elements is in the queue.
 fn is_left<O: TermOrder>(pairs: &PairQueue<O>, left: u32, right: u32) -> bool
-    ensures { result ≡ is_left_of pairs.now left right }
+    ensures { result ≡ is_left_of pairs.now.pairs left right }
 {
     if left < right {
         pairs.contains(left, right)

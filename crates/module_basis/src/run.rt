@@ -14,28 +14,29 @@ use ibp_base::NoMemory;
 use module_division::s_vector;
 use module_vec::{Vector, VectorFault};
 use mono_order::TermOrder;
-use pair_queue::{Pair, PairQueue};
+use pair_queue::{Pair, PairOrder, PairQueue};
 use std::alloc::Global;
 use std::marker::Model;
 
 /// Buchberger's algorithm with a budget of pairs, after Buchberger, "Ein Algorithmus zum Auffinden der Basiselemente
-/// des Restklassenringes nach einem nulldimensionalen Polynomideal" (1965), for submodules of free modules: the
-/// pair with the least common multiple that is least is taken first, and the remainder of its S-vector is added to
-/// the list, until no pair is left. A pair that the chain criterion drops is not taken; this is that of Buchberger, "A
+/// des Restklassenringes nach einem nulldimensionalen Polynomideal" (1965), for submodules of free modules: pair
+/// after pair is taken, and the remainder of its S-vector is added to
+/// the list, until no pair is left. The pairs go in the order that is given. A pair that the chain criterion drops is not taken; this is that of Buchberger, "A
 /// criterion for detecting unnecessary reductions in the construction of Gröbner bases" (1979).
 pub fn plain_run<O: TermOrder>(
     alloc: Global,
     generators: &[Vector<O>],
     pairs: u64,
+    by: PairOrder,
 ) -> Result<Basis<O>, BasisFault>
     requires not_zero { All (λ g. g ≢ []) generators.now }
     requires few { length generators.now + pairs < 2 ^ 32 }
-    ensures done { IfOk result (λ basis. RunsTo O.order RUN_DEGREE generators.now pairs (Done basis.elements basis.taken)) }
-    ensures spent { result ≢ Err BasisFault.NoMemory → (result ≡ Err BasisFault.PairsSpent) ↔ RunsTo O.order RUN_DEGREE generators.now pairs PairsSpent }
-    ensures over { result ≢ Err BasisFault.NoMemory → (result ≡ Err BasisFault.DegreeOver) ↔ RunsTo O.order RUN_DEGREE generators.now pairs DegreeOver }
+    ensures done { IfOk result (λ basis. RunsTo O.order by RUN_DEGREE generators.now pairs (Done basis.elements basis.taken)) }
+    ensures spent { result ≢ Err BasisFault.NoMemory → (result ≡ Err BasisFault.PairsSpent) ↔ RunsTo O.order by RUN_DEGREE generators.now pairs PairsSpent }
+    ensures over { result ≢ Err BasisFault.NoMemory → (result ≡ Err BasisFault.DegreeOver) ↔ RunsTo O.order by RUN_DEGREE generators.now pairs DegreeOver }
     ensures basis { IfOk result (λ basis. IsGroebnerBasis O.order (IsMember VARIABLES generators.now) basis.elements) }
 {
-    let mut run = Run::opened(alloc, generators)?;
+    let mut run = Run::opened(alloc, generators, by)?;
     'pairs: while let Some(pair) = run.next_pair() {
         if run.taken() == pairs {
             return Err(BasisFault::PairsSpent);
@@ -62,35 +63,35 @@ impl<O: TermOrder> Model for Run<O> {
 
     ghost Value = { RunState };
 
-    ghost view = { λ r. run_state r.elements.items r.pairs r.taken };
+    ghost view = { λ r. run_state r.pairs.by r.elements.items r.pairs.pairs r.taken };
 
-    ghost invariant = { λ r. IsSoundState O.order VARIABLES (run_state r.elements.items r.pairs r.taken) × (r.index ≡ map lead r.elements.items) };
+    ghost invariant = { λ r. IsSoundState O.order VARIABLES (run_state r.pairs.by r.elements.items r.pairs.pairs r.taken) × (r.index ≡ map lead r.elements.items) };
 }
 
 impl<O: TermOrder> Run<O> {
     // The monic multiples of the generators are added in turn.
-    fn opened(alloc: Global, generators: &[Vector<O>]) -> Result<Run<O>, BasisFault>
+    fn opened(alloc: Global, generators: &[Vector<O>], by: PairOrder) -> Result<Run<O>, BasisFault>
         requires not_zero { All (λ g. g ≢ []) generators.now }
         requires few { length generators.now < 2 ^ 32 }
-        ensures opens { IfOk result (λ run. opening O.order RUN_DEGREE generators.now ≡ Some run) }
-        ensures over { result ≡ Err BasisFault.DegreeOver → opening O.order RUN_DEGREE generators.now ≡ None }
+        ensures opens { IfOk result (λ run. opening O.order by RUN_DEGREE generators.now ≡ Some run) }
+        ensures over { result ≡ Err BasisFault.DegreeOver → opening O.order by RUN_DEGREE generators.now ≡ None }
         ensures not_spent { (result ≡ Err BasisFault.PairsSpent) → ⊥ }
         ensures vectors { OnOk result (All (IsVector O.order VARIABLES) generators.now) }
     {
-        let mut run = Run::empty(alloc);
+        let mut run = Run::empty(alloc, by);
         for generator in generators {
             run = run.added(alloc, made_monic(alloc, generator)?)?;
         }
         Ok(run)
     }
 
-    fn empty(alloc: Global) -> Run<O>
-        ensures { result ≡ record { elements = []; pairs = []; taken = 0 } }
+    fn empty(alloc: Global, by: PairOrder) -> Run<O>
+        ensures { result ≡ record { by = by; elements = []; pairs = []; taken = 0 } }
     {
         Run {
             elements: Vec::new(alloc),
             index: LeadIndex::empty(alloc),
-            pairs: PairQueue::empty(alloc),
+            pairs: PairQueue::empty(alloc, by),
             taken: 0,
         }
     }
@@ -129,6 +130,7 @@ impl<O: TermOrder> Run<O> {
         ensures none { IsNone result ↔ (pairs_left self.old ≡ []) }
         ensures first { IfSome result (λ pair. pairs_left self.old ≡ pair ∷ self.new.pairs) }
         ensures proper { IfSome result (λ pair. IsProper self.new.elements pair) }
+        ensures by { self.new.by ≡ self.old.by }
         ensures elements { self.new.elements ≡ self.old.elements }
         ensures taken { self.new.taken ≡ self.old.taken }
     {

@@ -13,7 +13,7 @@ use Rattle.ibp_algebra.proofs.ReverseLex.{then_Equal, deg_rev_lex-add, not_below
 use Rattle.ibp_algebra.proofs.Heights.{numbered_height-rise, numbered_height-bound}
 use Rattle.mono_order.specs.declared.limits.TheConstants.{MONO_DEGREE}
 use Rattle.mono_order.specs.Term.{Term, multiply_term}
-use Rattle.mono_order.specs.TermOrder.{over_position, zero_dominates, block_order, nothing_high, zero_high, block_height, block_bound, IsTermOrder}
+use Rattle.mono_order.specs.TermOrder.{over_position, zero_dominates, high_block, block_order, nothing_high, zero_high, block_high, block_height, block_bound, IsTermOrder}
 
 over_position_total : IsTotalOrder over_position
 over_position_total = then_total (on_total (λ (t : Term). t.1) deg_rev_lex_total) (on_total (λ (t : Term). t.0) (back_total nat_cmp_total))
@@ -72,3 +72,6 @@ over_position_laws variables = block_laws nothing_high variables
 
 pub zero_dominates_laws : (variables : ℕ) → IsTermOrder variables zero_dominates zero_high block_height (block_bound variables)
 zero_dominates_laws variables = block_laws zero_high variables
+
+pub high_block_laws : (variables : ℕ) → IsTermOrder variables high_block block_high block_height (block_bound variables)
+high_block_laws variables = block_laws block_high variables

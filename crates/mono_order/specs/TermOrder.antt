@@ -4,18 +4,19 @@
 --     block_order high         the order whose high components are those of the test
 --     over_position            no component is high
 --     zero_dominates           component 0 alone is high
+--     high_block               the components from FIRST_HIGH up are high
 --     block_height t, block_bound     a whole number that is less for the lesser of two high terms, or of two low ones;
 --                              and one that is above those of bounded terms
 --     IsTermOrder              the laws of an order of terms
 -- Source: the order term over position, and orders that eliminate components, as in Using Algebraic Geometry of Cox, Little and O'Shea.
-use Rattle.std.specs.Prelude.{◌≡◌, ◌≢◌, ℕ, ◌+◌, ◌-◌, ◌*◌, ◌^◌, ◌<◌, ◌≤◌, Bool, true, false, nat_eq, sum, length, replicate, List}
+use Rattle.std.specs.Prelude.{◌≡◌, ◌≢◌, ℕ, ◌+◌, ◌-◌, ◌*◌, ◌^◌, ◌<◌, ◌≤◌, Bool, true, false, nat_eq, nat_le, sum, length, replicate, List}
 use Rattle.std.specs.Cmp.{IsTotalOrder}
 use Rattle.std.specs.FinMap.{IsAntisymmetric}
 use Rattle.std.specs.Ordering.{nat_cmp, bool_cmp, ordering_then}
 use Rattle.std.specs.declared.cmp.Ordering.{Ordering}
 use Rattle.std.specs.declared.cmp.Ordering.TheVariants.{Less, Greater}
 use Rattle.ibp_algebra.specs.Exponents.{deg_rev_lex, monomial_height}
-use Rattle.mono_order.specs.declared.limits.TheConstants.{MONO_DEGREE}
+use Rattle.mono_order.specs.declared.limits.TheConstants.{MONO_DEGREE, FIRST_HIGH}
 use Rattle.mono_order.specs.Term.{Term, multiply_term, IsTerm}
 
 -- the monomial decides, and at equal monomials the lower component is greater
@@ -34,6 +35,12 @@ zero_high component = nat_eq component 0
 
 abbrev pub zero_dominates : Term → Term → Ordering
 zero_dominates = block_order zero_high
+
+abbrev pub block_high : ℕ → Bool
+block_high component = nat_le FIRST_HIGH component
+
+abbrev pub high_block : Term → Term → Ordering
+high_block = block_order block_high
 
 abbrev pub block_height : Term → ℕ
 block_height t = 256 * monomial_height t.1 + (255 - t.0)

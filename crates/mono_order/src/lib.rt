@@ -8,7 +8,7 @@ mod order;
 mod term;
 mod words;
 
-pub use limits::{MONO_DEGREE, RUN_DEGREE, VARIABLES};
+pub use limits::{FIRST_HIGH, MONO_DEGREE, RUN_DEGREE, VARIABLES};
 pub use monomial::{DegRevLex, Monomial, MonomialOrder};
-pub use order::{OverPosition, TermOrder, ZeroDominates};
+pub use order::{HighBlock, OverPosition, TermOrder, ZeroDominates};
 pub use term::Term;

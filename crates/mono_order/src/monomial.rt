@@ -93,8 +93,8 @@ impl Monomial {
         ]
     }
 
-    // The exponents, that of z1 first.
-    fn exponents(&self) -> [u16; VARIABLES]
+    /// The exponents, that of z1 first.
+    pub fn exponents(&self) -> [u16; VARIABLES]
         ensures value { result ≡ self.now }
         ensures kept { IsMonomial self.now }
     {

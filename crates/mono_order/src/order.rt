@@ -4,6 +4,7 @@ ghost use Rattle.mono_order.specs.declared.limits.TheConstants.{VARIABLES};
 ghost use Rattle.mono_order.specs.Term.{Term as TermValue};
 ghost use Rattle.mono_order.specs.TermOrder.{IsTermOrder};
 
+use crate::limits::FIRST_HIGH;
 use crate::monomial::{DegRevLex, MonomialOrder};
 use crate::term::Term;
 use std::cmp::Ordering;
@@ -90,4 +91,33 @@ impl TermOrder for ZeroDominates {
     }
 
     ghost laws = { zero_dominates_laws VARIABLES };
+}
+
+/// The components from `FIRST_HIGH` up are high: each of their terms is greater than every term of a lower one.
+pub struct HighBlock;
+
+impl TermOrder for HighBlock {
+    ghost use Rattle.mono_order.specs.TermOrder.{high_block, block_high, block_height, block_bound};
+    ghost use Rattle.mono_order.specs.BlockOrders.{high_block_laws};
+
+    ghost order = { high_block };
+
+    ghost high = { block_high };
+
+    ghost height = { block_height };
+
+    ghost bound = { block_bound VARIABLES };
+
+    fn compare(left: &Term, right: &Term) -> Ordering {
+        match (left.component >= FIRST_HIGH).cmp(&(right.component >= FIRST_HIGH)) {
+            Ordering::Equal => OverPosition::compare(left, right),
+            different => different,
+        }
+    }
+
+    fn is_high(component: u8) -> bool {
+        component >= FIRST_HIGH
+    }
+
+    ghost laws = { high_block_laws VARIABLES };
 }

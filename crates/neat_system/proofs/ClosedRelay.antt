@@ -34,7 +34,7 @@ use Rattle.neat_system.specs.declared.fault.SystemFault.{SystemFault}
 use Rattle.neat_system.specs.declared.fault.SystemFault.TheVariants.{PairsSpent, DegreeOver, CandidatesOver}
 use Rattle.neat_system.specs.declared.gathering.Gathered.{Gathered}
 use Rattle.neat_system.specs.Answer.{fault_in, IsAnswer}
-use Rattle.neat_system.specs.Reductions.{declared_row}
+use Rattle.target_rows.specs.Reductions.{declared_row}
 use Rattle.neat_system.proofs.OneSystem.{IsUnworked, worked_alone}
 use Rattle.neat_system.specs.Gathering.{IsPieceOf, IsWorkedPiece, IsWorkOf, IsFirstFault, Gathers, Writes}
 use Rattle.neat_system.specs.System.{AreBooks, SectorWork, IsWorkFor, IsSectorWork, sectors_of, AreWorks, relation_at, IsSystem, IsWorkedOut, IsFault}

@@ -38,7 +38,7 @@ module _ (family : FamilyData) where
   as_many : (targets : List Integral) (work : SectorWork) → IsWorkFor family targets work → length (labels (length work.fields) work.seeds) ≡ length work.candidates
   as_many targets work is = ap (λ seeds. length (labels (length work.fields) seeds)) is.with_seeds ∙ zip_length _ _ _ is.worked.are_candidates
 
-  few_of_work : (targets : List Integral) (work : SectorWork) → IsWorkFor family targets work → length work.candidates ≤ family.budget.candidates
+  pub few_of_work : (targets : List Integral) (work : SectorWork) → IsWorkFor family targets work → length work.candidates ≤ family.budget.candidates
   few_of_work targets work is =
       let many = as_many targets work is in
       let counted = length-labels (length work.fields) work.seeds in

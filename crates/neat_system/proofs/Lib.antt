@@ -1,13 +1,10 @@
 pub mod Answering
 pub mod ClosedRelay
 pub mod GatheredWorks
+pub mod FewRelations
 pub mod Lengths
-pub mod Numbers
 pub mod OneSystem
-pub mod PickedPlaces
-pub mod Reducing
 pub mod Running
-pub mod TargetRows
 pub mod SomeAnswer
 pub mod BasisFields
 pub mod NoRise

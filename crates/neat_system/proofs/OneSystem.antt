@@ -26,7 +26,7 @@ use Rattle.sector_job.specs.declared.outcome.Outcome.{Outcome}
 use Rattle.sector_job.specs.declared.outcome.Outcome.TheVariants.{Worked, PairsSpent, DegreeOver, CandidatesOver}
 use Rattle.system_text.specs.declared.value.System.{System}
 use Rattle.neat_system.specs.System.{AreBooks, SectorWork, IsSectorWork, sectors_of, AreWorks, all_candidates, all_labels, block_of, relation_at, IsSystem, IsWorkedOut, IsFault}
-use Rattle.neat_system.specs.Reductions.{declared_row, reductions_of}
+use Rattle.target_rows.specs.Reductions.{declared_row, reductions_of}
 use Rattle.neat_system.proofs.WorkSeeds.{seeds_of, same_seeds}
 
 -- lists with equal keys are equal where an element is told by its key
@@ -73,6 +73,7 @@ family_with family within = record {
   zero = family.zero;
   bounds = family.bounds;
   caps = family.caps;
+  symmetries = family.symmetries;
   budget = family.budget;
   probe = family.probe;
   limits = within;

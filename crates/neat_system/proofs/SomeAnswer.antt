@@ -33,7 +33,7 @@ use Rattle.system_text.specs.declared.value.System.{System}
 use Rattle.neat_system.specs.declared.fault.SystemFault.{SystemFault}
 use Rattle.neat_system.specs.Answer.{fault_in, HasFault}
 use Rattle.neat_system.specs.Gathering.{IsPieceOf, IsWorkedPiece, IsWorkOf, IsFirstFault, fault_of}
-use Rattle.neat_system.specs.Reductions.{declared_row, reductions_of}
+use Rattle.target_rows.specs.Reductions.{declared_row, reductions_of}
 use Rattle.neat_system.specs.System.{AreBooks, SectorWork, IsWorkFor, all_candidates, all_labels, block_of, relation_at, IsSystem, IsFault}
 use Rattle.neat_system.proofs.ClosedRelay.{pieces_sectors, IsClosedWith, are_works, is_fault}
 use Rattle.neat_system.proofs.OneSystem.{family_with, IsUnworked}

@@ -21,11 +21,11 @@ use Rattle.system_text.specs.declared.value.SectorBlock.{SectorBlock}
 use Rattle.system_text.specs.declared.value.System.{System}
 use Rattle.system_text.specs.declared.value.Written.{Written}
 use Rattle.neat_system.specs.Headline.{IsIdentityIn, AreIdentities, NoPowerRises}
-use Rattle.neat_system.specs.Reductions.{declared_row}
+use Rattle.target_rows.specs.Reductions.{declared_row}
 use Rattle.neat_system.specs.System.{SectorWork, IsSectorWork, all_candidates, all_labels, block_of, relation_at, IsSystem}
 use Rattle.neat_system.proofs.BasisFields.{basis_member}
 use Rattle.neat_system.proofs.NoRise.{row_does_not_rise}
-use Rattle.neat_system.proofs.PickedPlaces.{places_within}
+use Rattle.target_rows.proofs.PickedPlaces.{places_within}
 use Rattle.neat_system.proofs.WorkSeeds.{seeds_of}
 
 -- ---- lists that go together

@@ -23,7 +23,7 @@ use Rattle.system_text.specs.declared.value.Reduction.{Reduction}
 use Rattle.system_text.specs.declared.value.System.{System}
 use Rattle.system_text.specs.declared.value.Written.{Written}
 use Rattle.neat_system.specs.Headline.{rows_of, AreAllCandidates, IsReductionBy, ReducesAsAll, IsIndependentSystem, NoneToSpare}
-use Rattle.neat_system.specs.Reductions.{declared_row, number_of, reductions_of}
+use Rattle.target_rows.specs.Reductions.{declared_row, number_of, reductions_of}
 use Rattle.neat_system.specs.System.{AreWorks, all_candidates, all_labels, relation_at, IsSystem}
 use Rattle.neat_system.proofs.OneSystem.{one_books, one_works}
 

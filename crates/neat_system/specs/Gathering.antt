@@ -24,7 +24,7 @@ use Rattle.neat_system.specs.declared.fault.SystemFault.{SystemFault}
 use Rattle.neat_system.specs.declared.labels.Label.{Label}
 use Rattle.neat_system.specs.declared.gathering.Gathered.{Gathered}
 use Rattle.neat_system.specs.Answer.{fault_in}
-use Rattle.neat_system.specs.Reductions.{declared_row, reductions_of}
+use Rattle.target_rows.specs.Reductions.{declared_row, reductions_of}
 use Rattle.neat_system.specs.System.{SectorWork, IsWorkFor, all_candidates, all_labels, block_of, relation_at}
 
 abbrev pub label_view : Label → LabelData

@@ -28,7 +28,7 @@ use Rattle.system_text.specs.declared.value.Reduction.{Reduction}
 use Rattle.system_text.specs.declared.value.SectorBlock.{SectorBlock}
 use Rattle.system_text.specs.declared.value.System.{System}
 use Rattle.system_text.specs.declared.value.Written.{Written}
-use Rattle.neat_system.specs.Reductions.{declared_row}
+use Rattle.target_rows.specs.Reductions.{declared_row}
 use Rattle.neat_system.specs.System.{AreBooks, SectorWork, AreWorks, all_candidates}
 
 abbrev pub rows_of : System → List IntegralSum

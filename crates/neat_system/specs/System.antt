@@ -31,7 +31,7 @@ use Rattle.sector_job.specs.declared.outcome.Outcome.{Outcome}
 use Rattle.system_text.specs.declared.value.SectorBlock.{SectorBlock}
 use Rattle.system_text.specs.declared.value.Written.{Written}
 use Rattle.system_text.specs.declared.value.System.{System}
-use Rattle.neat_system.specs.Reductions.{declared_row, reductions_of}
+use Rattle.target_rows.specs.Reductions.{declared_row, reductions_of}
 
 abbrev pub AreBooks : FamilyData → List Integral → Type 0
 AreBooks family books = MeetsEquation (AreTailsOf family) (opening_targets family) books

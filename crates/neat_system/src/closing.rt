@@ -5,11 +5,9 @@ ghost use Rattle.relay_core.specs.Relay.{AllDone};
 ghost use Rattle.neat_system.specs.Answer.{IsAnswer, IsAnswerFor};
 ghost use Rattle.neat_system.specs.Gathering.{Writes};
 
-use crate::declared::declared_rows;
 use crate::fault::SystemFault;
 use crate::faults::first_fault;
 use crate::gathering::{Gathered, gather};
-use crate::reductions::reductions_of;
 use crate::relations::relations_at;
 use family::Family;
 use ibp_base::{List, NoMemory};
@@ -18,6 +16,7 @@ use relay_core::RelayState;
 use sector_job::SectorResult;
 use std::alloc::Global;
 use system_text::System;
+use target_rows::{declared_rows, reductions_of};
 
 // The system of what is gathered.
 fn system_of(alloc: Global, family: &Family, gathered: Gathered) -> Result<System, NoMemory>

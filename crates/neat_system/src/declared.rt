@@ -1,38 +1,12 @@
-// The declared targets, as rows and as what a relay opens with.
-ghost use Rattle.std.specs.Prelude.{◌≡◌, IfOk, map};
+// What a relay opens with.
+ghost use Rattle.std.specs.Prelude.{◌≡◌, IfOk};
 ghost use Rattle.family.specs.FamilyView.{family_view};
 ghost use Rattle.sector_job.specs.Outcomes.{opening_targets};
-ghost use Rattle.neat_system.specs.Reductions.{declared_row};
 
 use family::Family;
 use ibp_base::NoMemory;
-use ibp_field::Residue;
 use sector_lattice::Integral;
-use sparse_rows::Row;
 use std::alloc::Global;
-
-// The row of a target, which is empty where its sector is zero.
-fn declared_row(alloc: Global, family: &Family, target: &Integral) -> Result<Row, NoMemory>
-    ensures { IfOk result (λ row. row ≡ declared_row (family_view family.now) target.now) }
-{
-    if family.is_zero(target.sector()) {
-        let row = Row::from_terms(alloc, &[])?;
-        return Ok(row);
-    }
-    let row = Row::from_terms(alloc, &[(*target, Residue::one())])?;
-    Ok(row)
-}
-
-/// The rows of the declared targets.
-pub fn declared_rows(alloc: Global, family: &Family) -> Result<Vec<Row>, NoMemory>
-    ensures { IfOk result (λ rows. rows.items ≡ map (declared_row (family_view family.now)) family.now.targets) }
-{
-    let mut rows = Vec::new(alloc);
-    for target in family.targets.as_slice() {
-        rows.push(declared_row(alloc, family, target)?)?;
-    }
-    Ok(rows)
-}
 
 /// The declared targets that are in no zero sector.
 pub fn opening_targets(alloc: Global, family: &Family) -> Result<Vec<Integral>, NoMemory>

@@ -10,7 +10,6 @@ mod gathering;
 mod labels;
 pub mod laws;
 mod plain;
-mod reductions;
 mod relations;
 
 pub use alone::{opened, work_all};

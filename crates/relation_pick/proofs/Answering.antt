@@ -77,6 +77,17 @@ module _ {K : Type 0} (order : K → K → Ordering) (candidates : List (FormalS
   AllAnswers-push (t ∷ targets) (f ∷ forms) [] target form weights h k = absurd h
   AllAnswers-push (t ∷ targets) (f ∷ forms) (w ∷ all) target form weights h k = (h.0, AllAnswers-push targets forms all target form weights h.1 k)
 
+  -- the answers for some targets, and then those for more
+  pub AllAnswers-append : (targets more forms rest : List (FormalSum K)) (all others : List (FormalSum ℕ))
+      → AllAnswers order candidates targets forms all → AllAnswers order candidates more rest others
+      → AllAnswers order candidates (targets ++ more) (forms ++ rest) (all ++ others)
+  AllAnswers-append [] more [] rest [] others h k = k
+  AllAnswers-append [] more [] rest (w ∷ all) others h k = absurd h
+  AllAnswers-append [] more (f ∷ forms) rest all others h k = absurd h
+  AllAnswers-append (t ∷ targets) more [] rest all others h k = absurd h
+  AllAnswers-append (t ∷ targets) more (f ∷ forms) rest [] others h k = absurd h
+  AllAnswers-append (t ∷ targets) more (f ∷ forms) rest (w ∷ all) others h k = (h.0, AllAnswers-append targets more forms rest all others h.1 k)
+
   later_written : (t : FormalSum K) (targets : List (FormalSum K)) (k : ℕ) → IsWritten order candidates targets k → IsWritten order candidates (t ∷ targets) k
   later_written t targets k h = (suc h.0, h.1, omega (arith, h.2), h.3, h.4)
 

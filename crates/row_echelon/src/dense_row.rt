@@ -104,7 +104,7 @@ fn add_marked(values: &mut [Residue], marks: &mut [bool], factor: Residue, terms
 {
     for (column, value) in terms {
         let column = *column as usize;
-        values[column] = values[column].add(factor.mul(*value));
+        values[column] = values[column].add_product(factor, *value);
         marks[column / BLOCK] = true;
     }
 }

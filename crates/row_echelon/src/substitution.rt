@@ -22,7 +22,7 @@ fn add_steps(sums: &mut [Residue], factor: Residue, steps: &[(u32, Residue)])
 {
     for (place, value) in steps {
         let place = *place as usize;
-        sums[place] = sums[place].add(factor.mul(*value));
+        sums[place] = sums[place].add_product(factor, *value);
     }
 }
 

@@ -118,7 +118,7 @@ module _ (family : FamilyData) (within : DataWithin family) (sector : ℕ) (targ
 
   of_done : (elements : List ModuleVector) (taken : ℕ) → EndsSo family sector (Done elements taken) → (outcome : Outcome) × IsOutcome family sector targets outcome
   of_done elements taken done =
-      let found = some_sector_basis family.baikov family.n sector within.few_variables within.polynomial.variables family.budget.pairs elements taken done in
+      let found = some_sector_basis family.baikov family.n sector within.few_variables within.polynomial.variables family.budget elements taken done in
       of_basis found.0 (record { elements = elements; taken = taken; done = done; basis = found.1 }) found.2
 
   by_end : (end : RunEnd) → EndsSo family sector end → (outcome : Outcome) × IsOutcome family sector targets outcome
@@ -128,5 +128,5 @@ module _ (family : FamilyData) (within : DataWithin family) (sector : ℕ) (targ
 
   pub some_outcome : (outcome : Outcome) × IsOutcome family sector targets outcome
   some_outcome =
-      let end = some_run_end family.baikov family.n sector within.few_variables within.polynomial.variables family.budget.pairs in
+      let end = some_run_end family.baikov family.n sector within.few_variables within.polynomial.variables family.budget in
       by_end end.0 end.1

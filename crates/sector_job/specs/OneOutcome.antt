@@ -12,7 +12,7 @@ use Rattle.family.specs.Within.{DataWithin}
 use Rattle.family.specs.FamilyData.{FamilyData}
 use Rattle.family.specs.declared.parts.StrippedField.{StrippedField}
 use Rattle.ibp_base.proofs.Ascending.{same_members}
-use Rattle.sector_module.specs.Factors.{sector_generators}
+use Rattle.sector_module.specs.Factors.{sector_generators, sector_pair_order}
 use Rattle.sector_module.proofs.OneBasis.{one_basis as one_list_of_fields}
 use Rattle.sector_module.specs.Generators.{GeneratorsValue}
 use Rattle.sector_job.specs.Candidates.{Integral, AreSeedsFor, AreCandidates, AreTails}
@@ -38,7 +38,7 @@ is_spent RunOver = false
 
 module _ (family : FamilyData) (limits : DataWithin family) (sector : ℕ) (targets : List Integral) where
   one_end : (first second : RunEnd) → EndsSo family sector first → EndsSo family sector second → first ≡ second
-  one_end first second h k = RunsTo-unique zero_dominates RUN_DEGREE (sector_generators family.baikov family.n sector) family.budget.pairs first second h k
+  one_end first second h k = RunsTo-unique zero_dominates (sector_pair_order family.baikov family.n sector family.budget) RUN_DEGREE (sector_generators family.baikov family.n sector) family.budget.pairs first second h k
 
   done_not_spent : (fields : List StrippedField) → HasBasis family sector fields → EndsSo family sector RunSpent → ⊥
   done_not_spent fields h k = true≢false (ap is_done (one_end _ _ h.done k))

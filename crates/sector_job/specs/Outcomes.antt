@@ -32,7 +32,7 @@ pub record FitsTargets (family : FamilyData) (sector : ℕ) (targets : List Inte
 
 -- the sector's run with the pairs of the file ends so
 abbrev pub EndsSo : FamilyData → ℕ → RunEnd → Type 0
-EndsSo family sector end = SectorRunEnds family.baikov family.n sector family.budget.pairs end
+EndsSo family sector end = SectorRunEnds family.baikov family.n sector family.budget end
 
 pub record HasBasis (family : FamilyData) (sector : ℕ) (fields : List StrippedField) : Type 0 where
   pub elements : List ModuleVector

@@ -32,7 +32,7 @@ sum-unit (suc i) = omega (arith, sum_by-cons (λ (x : ℕ). x) 0 (unit_exponents
 
 -- ---- a variable as a monomial of all variables
 
-variable_key : (n j : ℕ) (m : List ℕ) → length m ≡ n → j < n → add_exponents (set (replicate n 0) j 1) m ≡ add_exponents (unit_exponents j) m
+pub variable_key : (n j : ℕ) (m : List ℕ) → length m ≡ n → j < n → add_exponents (set (replicate n 0) j 1) m ≡ add_exponents (unit_exponents j) m
 variable_key zero j m e below = absurd (omega arith)
 variable_key (suc n) j [] e below = absurd (omega arith)
 variable_key (suc n) zero (x ∷ m) e below = λ i. (1 + x) ∷ add_exponents-one n m (omega arith) i
@@ -57,7 +57,7 @@ times_variable j p v derived product below long made by_place times =
     (SameCoefficients-trans (SamePolynomial-multiply made by_place)
     (SameCoefficients-from_eq (ap (λ (f : Polynomial). f ++ []) (variable_terms VARIABLES j below (derivative j p) (derivative_length VARIABLES j p long)))))
 
-sum-variable : (j : ℕ) → j < VARIABLES → sum (set (replicate VARIABLES 0) j 1) ≡ 1
+pub sum-variable : (j : ℕ) → j < VARIABLES → sum (set (replicate VARIABLES 0) j 1) ≡ 1
 sum-variable j below = omega (arith, sum-set (replicate VARIABLES 0) j 1 below, sum-ones VARIABLES, get_or-le-sum (replicate VARIABLES 0) j)
 
 pub variable_degree : (j : ℕ) (v : Polynomial) → j < VARIABLES → IsCanonical deg_rev_lex v → SamePolynomial v (code_variable j) → degree_of v ≤ 1

@@ -67,13 +67,13 @@ normal_same i f g same =
 
 -- ---- the list
 
-factor_at_place : (p : Polynomial) (inside : ℕ → Bool) (i n j : ℕ) → j < n → get_or (factors_from p inside i n) j [] ≡ sector_factor p inside (i + j)
+pub factor_at_place : (p : Polynomial) (inside : ℕ → Bool) (i n j : ℕ) → j < n → get_or (factors_from p inside i n) j [] ≡ sector_factor p inside (i + j)
 factor_at_place p inside i zero j below = absurd (omega arith)
 factor_at_place p inside i (suc n) zero below = ap (sector_factor p inside) (omega arith)
 factor_at_place p inside i (suc n) (suc j) below =
     factor_at_place p inside (suc i) n j (omega arith) ∙ ap (sector_factor p inside) (omega arith)
 
-factor_last : (p : Polynomial) (inside : ℕ → Bool) (i n : ℕ) → get_or (factors_from p inside i n) n [] ≡ scale 2147483646 p
+pub factor_last : (p : Polynomial) (inside : ℕ → Bool) (i n : ℕ) → get_or (factors_from p inside i n) n [] ≡ scale 2147483646 p
 factor_last p inside i zero = refl
 factor_last p inside i (suc n) = factor_last p inside (suc i) n
 

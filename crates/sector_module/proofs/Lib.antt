@@ -6,7 +6,9 @@ pub mod SectorBasis
 pub mod Splitting
 pub mod Parts
 pub mod Variables
+pub mod Restricting
 pub mod SectorReduced
+pub mod NormalModule
 pub mod SectorRun
 pub mod OneBasis
 pub mod FactorLaws
@@ -15,3 +17,4 @@ pub mod Generating
 pub mod FieldVectors
 pub mod FieldLimits
 pub mod SomeBasis
+pub mod PairOrders

@@ -61,7 +61,7 @@ later_weight i first below w (f ∷ fs) =
       later_weight i (suc first) (omega (arith, below)) w fs,
     )
 
-first_weight : (first : ℕ) (w : List ℕ → ℕ) (f : Polynomial) (fs : List Polynomial) → weighted_sum (at_weight first w) (vector_of first (f ∷ fs)) ≡ weighted_sum w f
+pub first_weight : (first : ℕ) (w : List ℕ → ℕ) (f : Polynomial) (fs : List Polynomial) → weighted_sum (at_weight first w) (vector_of first (f ∷ fs)) ≡ weighted_sum w f
 first_weight first w f fs =
     omega (
       arith,

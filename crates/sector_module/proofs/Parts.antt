@@ -130,7 +130,7 @@ module _ {variables : ℕ} {order : Term → Term → Ordering} {high : ℕ → 
 
 -- ---- its value
 
-keyed_ext : {K : Type 0} (P : K → Type 0) (v w : K → ℕ) → ((k : K) → P k → v k ≡ w k) → (f : List (K × ℕ)) → AllKeys P f → weighted_sum v f ≡ weighted_sum w f
+pub keyed_ext : {K : Type 0} (P : K → Type 0) (v w : K → ℕ) → ((k : K) → P k → v k ≡ w k) → (f : List (K × ℕ)) → AllKeys P f → weighted_sum v f ≡ weighted_sum w f
 keyed_ext P v w same [] h = refl
 keyed_ext P v w same (t ∷ f) h = omega (arith, ap (λ n. t.1 * n) (same t.0 h.0), keyed_ext P v w same f h.1)
 

@@ -23,21 +23,10 @@ use Rattle.module_basis.proofs.OrderChange.{IsReducedBasis-members}
 use Rattle.family.specs.Shapes.{HasVariables}
 use Rattle.sector_module.specs.Factors.{at_component, unit_vector, factor_generators, sector_factors, sector_generators}
 use Rattle.sector_module.proofs.Syzygies.{IsPolynomialIn, IsSyzygy}
+use Rattle.sector_module.proofs.NormalModule.{normal_module}
 use Rattle.sector_module.proofs.Parts.{IsInFirst}
 use Rattle.sector_module.proofs.SectorBasis.{syzygy_basis}
 use Rattle.sector_module.proofs.SectorReduced.{factors_first, long_factors}
-
--- ---- lists of images
-
-contained_image : (f : ModuleVector → ModuleVector) (l : List ModuleVector) (g : ModuleVector) → Contains (map f l) g → (r : ModuleVector) × Contains l r × (f r ≡ g)
-contained_image f l g h =
-    let below : h.0 < length l = omega (arith, h.1, length-map l f) in
-    (get_or l h.0 [], Contains-get_or l h.0 [] below, sym (get_or-map f l h.0 [] g below) ∙ h.2)
-
-image_contained : (f : ModuleVector → ModuleVector) (l : List ModuleVector) (r : ModuleVector) → Contains l r → Contains (map f l) (f r)
-image_contained f l r h =
-    let is : get_or (map f l) h.0 (f r) ≡ f r = get_or-map f l h.0 r (f r) h.1 ∙ (λ i. f (h.2 i)) in
-    (h.0, omega (arith, h.1, length-map l f), is)
 
 pub generators_valid : (first : ℕ) (fs : List Polynomial) → AllByRecursion (IsPolynomialIn VARIABLES) fs → first + length fs ≤ 256 → AllByRecursion (AllKeys (IsTerm VARIABLES)) (factor_generators VARIABLES first fs)
 generators_valid first [] h le = tt
@@ -71,20 +60,7 @@ module _ (p : Polynomial) (n sector : ℕ) (few : n ≤ VARIABLES) (shape : AllK
   -- the canonical generators generate the same module
   same_module : (v : ModuleVector) → IsMember VARIABLES (sector_generators p n sector) v ↔ IsMember VARIABLES raw_generators v
   unfolding raw_generators
-  same_module v =
-      let raw = raw_generators in
-      let normal = normal_form zero_dominates in
-      let gs = map normal raw in (
-        IsMember-least VARIABLES gs (IsMember VARIABLES raw) (IsSubmodule-IsMember VARIABLES raw) (λ g h.
-            let image = contained_image normal raw g h in
-            let r = image.0 in
-            let same = SameVector-normal (zero_dominates_laws VARIABLES) g r (sym image.2) in
-            IsMember-same VARIABLES raw r g (SameCoefficients-sym same) (IsMember-generator VARIABLES raw r image.1 (raw_valid r image.1))) v,
-        IsMember-least VARIABLES raw (IsMember VARIABLES gs) (IsSubmodule-IsMember VARIABLES gs) (λ r h.
-            let valid = AllKeys-normal_form zero_dominates (zero_dominates_laws VARIABLES).total (zero_dominates_laws VARIABLES).unique (IsTerm VARIABLES) r (raw_valid r h) in
-            IsMember-same VARIABLES gs (normal r) r (SameVector-normal (zero_dominates_laws VARIABLES) (normal r) r refl)
-            (IsMember-generator VARIABLES gs (normal r) (image_contained normal raw r h) valid)) v,
-      )
+  same_module v = normal_module (zero_dominates_laws VARIABLES) raw_generators raw_valid v
 
   pub run_reduced : (elements list : List ModuleVector) → IsGroebnerBasis zero_dominates (IsMember VARIABLES (sector_generators p n sector)) elements
       → IsReducedLowBasis zero_dominates VARIABLES zero_high elements list → IsReducedBasis over_position VARIABLES (IsSyzygy VARIABLES (sector_factors p n sector)) list

@@ -19,10 +19,11 @@ use Rattle.module_basis.specs.GroebnerBasis.{IsReducedBasis}
 use Rattle.module_basis.specs.PlainRun.{RunEnd, Done}
 use Rattle.module_basis.proofs.RunLaws.{run_monic, run_groebner, run_ends}
 use Rattle.module_basis.proofs.SomeReduced.{some_reduced_low}
+use Rattle.family.specs.declared.parts.Budget.{Budget}
 use Rattle.family.specs.declared.parts.StrippedField.{StrippedField}
 use Rattle.family.specs.Shapes.{HasVariables}
 use Rattle.family.specs.Conditions.{IsInSectorModule}
-use Rattle.sector_module.specs.Factors.{factor_generator, factor_generators, sector_factors, sector_generators, SectorRunEnds}
+use Rattle.sector_module.specs.Factors.{factor_generator, factor_generators, sector_factors, sector_generators, sector_pair_order, SectorRunEnds}
 use Rattle.sector_module.specs.FieldsOf.{IsComponentOf, IsFieldOf}
 use Rattle.sector_module.specs.SectorBasis.{IsSectorBasis}
 use Rattle.sector_module.proofs.Syzygies.{IsSyzygy}
@@ -57,7 +58,7 @@ field_from : ℕ → ModuleVector → StrippedField
 field_from n v = record { c = map (normal_form deg_rev_lex) (components_from 1 n v); b = part_of (1 + n) v }
 
 -- a number that no degree of the vector is above
-degree_bound : (v : ModuleVector) → (limit : ℕ) × AllKeys (λ t. sum t.1 ≤ limit) v
+pub degree_bound : (v : ModuleVector) → (limit : ℕ) × AllKeys (λ t. sum t.1 ≤ limit) v
 degree_bound [] = (0, tt)
 degree_bound (t ∷ v) =
     let rest = degree_bound v in
@@ -78,7 +79,7 @@ degrees_bound (v ∷ list) =
       ),
     )
 
-component_at : (first n i : ℕ) (v : ModuleVector) → i < n → get_or (components_from first n v) i [] ≡ component_of (first + i) v
+pub component_at : (first n i : ℕ) (v : ModuleVector) → i < n → get_or (components_from first n v) i [] ≡ component_of (first + i) v
 component_at first zero i v below = absurd (omega arith)
 component_at first (suc n) zero v below = ap (λ k. component_of k v) (let e : first ≡ first + 0 = omega arith in e)
 component_at first (suc n) (suc i) v below = component_at (suc first) n i v (omega arith) ∙ ap (λ k. component_of k v) (let e : suc first + i ≡ first + suc i = omega arith in e)
@@ -119,7 +120,7 @@ pub record IsMemberField (p : Polynomial) (n sector : ℕ) (field : StrippedFiel
   pub count : length field.c ≡ n
   pub member : IsInSectorModule p sector field
 
-module _ (p : Polynomial) (n sector : ℕ) (few : n ≤ VARIABLES) (shape : AllKeys (HasVariables n) p) (pairs : ℕ) where
+module _ (p : Polynomial) (n sector : ℕ) (few : n ≤ VARIABLES) (shape : AllKeys (HasVariables n) p) (budget : Budget) where
   all_generators : All (λ g. IsVector zero_dominates VARIABLES g × (g ≢ [])) (sector_generators p n sector)
   all_generators =
       All-from_recursion (λ g. IsVector zero_dominates VARIABLES g × (g ≢ [])) (sector_generators p n sector)
@@ -131,14 +132,14 @@ module _ (p : Polynomial) (n sector : ℕ) (few : n ≤ VARIABLES) (shape : AllK
   not_zero : All (λ g. g ≢ []) (sector_generators p n sector)
   not_zero = All-weaker (λ g. IsVector zero_dominates VARIABLES g × (g ≢ [])) (λ g. g ≢ []) (λ g h. h.1) (sector_generators p n sector) all_generators
 
-  pub some_run_end : (end : RunEnd) × SectorRunEnds p n sector pairs end
-  some_run_end = run_ends (zero_dominates_laws VARIABLES) (sector_generators p n sector) vectors not_zero RUN_DEGREE pairs
+  pub some_run_end : (end : RunEnd) × SectorRunEnds p n sector budget end
+  some_run_end = run_ends (zero_dominates_laws VARIABLES) (sector_generators p n sector) vectors not_zero (sector_pair_order p n sector budget) RUN_DEGREE budget.pairs
 
-  pub some_sector_basis : (elements : List ModuleVector) (taken : ℕ) → SectorRunEnds p n sector pairs (Done elements taken) → (fields : List StrippedField) × IsSectorBasis p n sector fields × All (IsMemberField p n sector) fields
+  pub some_sector_basis : (elements : List ModuleVector) (taken : ℕ) → SectorRunEnds p n sector budget (Done elements taken) → (fields : List StrippedField) × IsSectorBasis p n sector fields × All (IsMemberField p n sector) fields
   some_sector_basis elements taken run =
       let gs = sector_generators p n sector in
-      let monic = run_monic (zero_dominates_laws VARIABLES) gs vectors not_zero RUN_DEGREE pairs elements taken run in
-      let groebner = run_groebner (zero_dominates_laws VARIABLES) gs vectors not_zero RUN_DEGREE pairs elements taken run in
+      let monic = run_monic (zero_dominates_laws VARIABLES) gs vectors not_zero (sector_pair_order p n sector budget) RUN_DEGREE budget.pairs elements taken run in
+      let groebner = run_groebner (zero_dominates_laws VARIABLES) gs vectors not_zero (sector_pair_order p n sector budget) RUN_DEGREE budget.pairs elements taken run in
       let low = some_reduced_low (zero_dominates_laws VARIABLES) elements monic in
       let list = low.0 in
       let h : IsReducedBasis over_position VARIABLES (IsSyzygy VARIABLES (sector_factors p n sector)) list = run_reduced p n sector few shape elements list groebner low.1 in

@@ -4,7 +4,9 @@
 --     at_component i f                  the vector f e_i
 --     factor_generators variables 1 fs  the vectors f_i e_0 + e_i
 --     sector_generators p n sector      those of the factors of the sector, each in canonical form
---     SectorRunEnds p n sector pairs    the plain run of these vectors with this budget of pairs ends so
+--     sector_pair_order p n sector budget      the order of pairs that the budget selects for stripped fields of the sector
+--     SectorRunEnds p n sector budget   the plain run of these vectors with this budget of pairs, and with pairs in the order
+--                                       that it selects, ends so
 use Rattle.std.specs.Prelude.{ℕ, zero, suc, Bool, replicate, map, List, [], ◌∷◌, ◌++◌}
 use Rattle.ibp_algebra.specs.FormalSum.{scale, map_keys, normal_form}
 use Rattle.ibp_algebra.specs.Polynomial.{Polynomial}
@@ -12,8 +14,11 @@ use Rattle.ibp_algebra.specs.Field.{sector_factor}
 use Rattle.mono_order.specs.declared.limits.TheConstants.{VARIABLES, RUN_DEGREE}
 use Rattle.mono_order.specs.TermOrder.{zero_dominates}
 use Rattle.module_vec.specs.ModuleVector.{ModuleVector}
+use Rattle.pair_queue.specs.declared.order.PairOrder.{PairOrder}
 use Rattle.module_basis.specs.PlainRun.{RunEnd, RunsTo}
+use Rattle.family.specs.declared.parts.Budget.{Budget}
 use Rattle.family.specs.Conditions.{in_sector}
+use Rattle.sector_module.specs.PairOrders.{component_degrees, pair_order}
 
 -- those from place i on, and places are counted from 0
 abbrev pub factors_from : Polynomial → (ℕ → Bool) → ℕ → ℕ → List Polynomial
@@ -41,5 +46,8 @@ factor_generators variables i (f ∷ fs) = factor_generator variables i f ∷ fa
 abbrev pub sector_generators : Polynomial → ℕ → ℕ → List ModuleVector
 sector_generators p n sector = map (normal_form zero_dominates) (factor_generators VARIABLES 1 (sector_factors p n sector))
 
-abbrev pub SectorRunEnds : Polynomial → ℕ → ℕ → ℕ → RunEnd → Type 0
-SectorRunEnds p n sector pairs end = RunsTo zero_dominates RUN_DEGREE (sector_generators p n sector) pairs end
+abbrev pub sector_pair_order : Polynomial → ℕ → ℕ → Budget → PairOrder
+sector_pair_order p n sector budget = pair_order budget.selection (component_degrees p n (in_sector sector))
+
+abbrev pub SectorRunEnds : Polynomial → ℕ → ℕ → Budget → RunEnd → Type 0
+SectorRunEnds p n sector budget end = RunsTo zero_dominates (sector_pair_order p n sector budget) RUN_DEGREE (sector_generators p n sector) budget.pairs end

@@ -1,4 +1,5 @@
 pub mod Generators
 pub mod Factors
+pub mod PairOrders
 pub mod FieldsOf
 pub mod SectorBasis

@@ -35,8 +35,8 @@ pub(crate) fn factor(
     variable.product(alloc, &derivative)
 }
 
-// Whether z_i is a variable of the sector.
-fn is_inside(sector: Sector, i: u8) -> bool
+/// Whether z_i is a variable of the sector, with i from 1.
+pub fn is_inside(sector: Sector, i: u8) -> bool
     requires { (0 < i) × (i ≤ VARIABLES) }
     ensures { result ≡ in_sector sector.0 (i - 1) }
 {

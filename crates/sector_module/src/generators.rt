@@ -5,7 +5,6 @@ ghost use Rattle.std.specs.Prelude.{◌≡◌, IfOk};
 use family::StrippedField;
 use ibp_base::{List, NoMemory};
 use sector_lattice::Sector;
-use sparse_poly::copy_polynomials;
 use std::alloc::Global;
 use std::marker::Model;
 
@@ -53,17 +52,8 @@ impl Generators {
     {
         let mut fields = Vec::new(alloc);
         for field in self.fields() {
-            fields.push(copy_field(alloc, field)?)?;
+            fields.push(field.copy(alloc)?)?;
         }
         Ok(List::from_vec(fields))
     }
-}
-
-fn copy_field(alloc: Global, field: &StrippedField) -> Result<StrippedField, NoMemory>
-    ensures { IfOk result (λ copy. copy ≡ field.now) }
-{
-    Ok(StrippedField {
-        c: copy_polynomials(alloc, field.c.as_slice())?,
-        b: field.b.copy(alloc)?,
-    })
 }

@@ -13,7 +13,7 @@ use family::{Family, StrippedField};
 use ibp_base::{List, NoMemory};
 use ibp_field::Residue;
 use module_vec::{Vector, VectorFault};
-use mono_order::{Monomial, Term, ZeroDominates};
+use mono_order::{Monomial, Term, TermOrder, ZeroDominates};
 use sector_lattice::Sector;
 use sparse_poly::Poly;
 use std::alloc::Global;
@@ -61,7 +61,18 @@ fn generator(alloc: Global, f: &Poly, i: u8) -> Result<Vector<ZeroDominates>, No
         },
         Residue::one(),
     ))?;
-    match Vector::from_terms(alloc, &terms) {
+    vector_of_terms(alloc, &terms)
+}
+
+/// The sum of terms whose degrees are within the limit of a run.
+pub fn vector_of_terms<O: TermOrder>(
+    alloc: Global,
+    terms: &[(Term, Residue)],
+) -> Result<Vector<O>, NoMemory>
+    requires { AllKeys (λ t. sum t.1 ≤ RUN_DEGREE) terms.now }
+    ensures { IfOk result (λ v. v ≡ normal_form O.order terms.now) }
+{
+    match Vector::from_terms(alloc, terms) {
         Ok(made) => Ok(made),
         Err(VectorFault::NoMemory) => Err(NoMemory),
         Err(VectorFault::DegreeOver) => unreachable!(),
@@ -69,10 +80,10 @@ fn generator(alloc: Global, f: &Poly, i: u8) -> Result<Vector<ZeroDominates>, No
 }
 
 /// The fields of vectors with the components 1 to n + 1.
-pub(crate) fn fields_of(
+pub fn fields_of<O: TermOrder>(
     alloc: Global,
     n: u8,
-    vectors: &[Vector<ZeroDominates>],
+    vectors: &[Vector<O>],
 ) -> Result<List<StrippedField>, NoMemory>
     requires { n ≤ VARIABLES }
     ensures { IfOk result (λ fields. AllZip (IsFieldOf RUN_DEGREE n) vectors.now fields) }
@@ -85,7 +96,11 @@ pub(crate) fn fields_of(
 }
 
 // The field of a vector.
-fn field_of(alloc: Global, n: u8, vector: &Vector<ZeroDominates>) -> Result<StrippedField, NoMemory>
+fn field_of<O: TermOrder>(
+    alloc: Global,
+    n: u8,
+    vector: &Vector<O>,
+) -> Result<StrippedField, NoMemory>
     requires { n ≤ VARIABLES }
     ensures { IfOk result (λ field. IsFieldOf RUN_DEGREE n vector.now field) }
 {
@@ -101,9 +116,9 @@ fn field_of(alloc: Global, n: u8, vector: &Vector<ZeroDominates>) -> Result<Stri
 }
 
 // The polynomial at a component.
-fn polynomial_at(
+fn polynomial_at<O: TermOrder>(
     alloc: Global,
-    vector: &Vector<ZeroDominates>,
+    vector: &Vector<O>,
     component: u8,
 ) -> Result<Poly, NoMemory>
     ensures { IfOk result (λ p. IsComponentOf RUN_DEGREE component vector.now p) }

@@ -1,1 +1,2 @@
 pub mod Striking
+pub mod RowSums

@@ -80,7 +80,7 @@ pub fn add_multiple<K: Copy, O: KeyOrder<K>>(
                 j += 1;
             }
             Ordering::Equal => {
-                push_term(&mut terms, first.0, first.1.add(factor.mul(second.1)))?;
+                push_term(&mut terms, first.0, first.1.add_product(factor, second.1))?;
                 i += 1;
                 j += 1;
             }

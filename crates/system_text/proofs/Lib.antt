@@ -1,2 +1,11 @@
 pub mod Powers
 pub mod Numbered
+pub mod Sums
+pub mod PowerEnds
+pub mod Standing
+pub mod LineEnds
+pub mod TextLines
+pub mod Cuts
+pub mod Sequences
+pub mod Whole
+pub mod MonomialReads

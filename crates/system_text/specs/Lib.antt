@@ -1,2 +1,9 @@
 pub mod Texts
 pub mod Systems
+pub mod Summaries
+pub mod SystemValues
+pub mod BadLines
+pub mod SystemLines
+pub mod Polynomials
+pub mod Integrals
+pub mod SomeValues

@@ -6,8 +6,10 @@
 --     reduction_text r        target [3]
 --                             reduces 10*I[1]
 --                             weights 1:2147483645 2:1073741823
---     system_text system      the family's name, the blocks, the numbered relations and the reductions,
+--     body_text system        the family's name, the blocks, the numbered relations and the reductions,
 --                             with the number of each in front of them
+--     system_text system      this behind the first line of a system
+--     fold_text system        and behind that of a folded system
 -- Source: formats of our own.
 use Rattle.std.specs.Prelude.{ℕ, List, [], ◌∷◌, ◌++◌, length, codes, decimal}
 use Rattle.std.specs.List.{flat_map, enumerate_from}
@@ -51,10 +53,9 @@ weights_text (weight ∷ weights) = joined weight_text (codes " ") (weight ∷ w
 abbrev pub reduction_text : Reduction → List ℕ
 reduction_text r = line (codes "target " ++ integral_text r.target) ++ line (codes "reduces " ++ row_text r.reduced) ++ line (codes "weights " ++ weights_text r.weights)
 
-abbrev pub system_text : System → List ℕ
-system_text system =
-    line (codes "neatibp-system 1")
-    ++ line (codes "family " ++ system.name)
+abbrev pub body_text : System → List ℕ
+body_text system =
+    line (codes "family " ++ system.name)
     ++ count_line (codes "sectors") system.sectors
     ++ flat_map block_text system.sectors
     ++ count_line (codes "relations") system.relations
@@ -62,3 +63,9 @@ system_text system =
     ++ count_line (codes "targets") system.reductions
     ++ flat_map reduction_text system.reductions
     ++ line (codes "end")
+
+abbrev pub system_text : System → List ℕ
+system_text system = line (codes "neatibp-system 1") ++ body_text system
+
+abbrev pub fold_text : System → List ℕ
+fold_text system = line (codes "neatibp-fold 1") ++ body_text system

@@ -76,7 +76,8 @@ fn put_row_terms(text: &mut Vec<u8>, terms: &[(Integral, Residue)]) -> Result<()
     }
 }
 
-fn put_row(text: &mut Vec<u8>, row: &Row) -> Result<(), NoMemory>
+/// The terms of a row, or `0`.
+pub fn put_row(text: &mut Vec<u8>, row: &Row) -> Result<(), NoMemory>
     ensures { OnOk result (text.new.items ≡ text.old.items ++ row_text row.now) }
 {
     put_row_terms(text, row.terms())

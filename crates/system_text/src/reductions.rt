@@ -28,7 +28,8 @@ fn put_more_weights(text: &mut Vec<u8>, weights: &[(u32, Residue)]) -> Result<()
     Ok(())
 }
 
-fn put_weights(text: &mut Vec<u8>, weights: &[(u32, Residue)]) -> Result<(), NoMemory>
+/// Weights with the numbers of their relations, or `none`.
+pub fn put_weights(text: &mut Vec<u8>, weights: &[(u32, Residue)]) -> Result<(), NoMemory>
     ensures { OnOk result (text.new.items ≡ text.old.items ++ weights_text weights.now) }
 {
     match weights {

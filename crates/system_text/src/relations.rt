@@ -1,33 +1,45 @@
 // Relations with their numbers.
-ghost use Rattle.std.specs.Prelude.{◌≡◌, ◌++◌, OnOk, codes, decimal};
-ghost use Rattle.system_text.specs.Texts.{integral_text};
-ghost use Rattle.system_text.specs.Systems.{line, count_line, numbered, relation_text};
+ghost use Rattle.std.specs.Prelude.{◌≡◌, ◌++◌, OnOk, codes};
+ghost use Rattle.system_text.specs.Systems.{count_line, numbered, relation_text};
+ghost use Rattle.system_text.specs.SystemLines.{origin_body};
 
 use crate::integrals::{put_integral, put_row_line};
 use crate::numbers::{put_bytes, put_count, put_whole};
 use crate::value::Written;
 use ibp_base::NoMemory;
+use sector_lattice::{Integral, Sector};
 
-// The line with the number, and with the sector, seed and field that the relation comes from.
-fn put_heading(text: &mut Vec<u8>, number: usize, relation: &Written) -> Result<(), NoMemory>
-    ensures { OnOk result (text.new.items ≡ text.old.items
-        ++ line (codes "relation " ++ decimal number ++ codes ": sector " ++ decimal relation.now.sector.0 ++ codes " seed " ++ integral_text relation.now.seed ++ codes " field " ++ decimal relation.now.field)) }
+/// The number of a relation, and the sector, seed and field that it comes from.
+pub fn put_origin(
+    text: &mut Vec<u8>,
+    number: usize,
+    sector: Sector,
+    seed: &Integral,
+    field: u32,
+) -> Result<(), NoMemory>
+    ensures { OnOk result (text.new.items ≡ text.old.items ++ origin_body number (sector, seed.now, field)) }
 {
-    put_bytes(text, b"relation ")?;
     put_whole(text, number as u64)?;
     put_bytes(text, b": sector ")?;
-    put_whole(text, u64::from(relation.sector.0))?;
+    put_whole(text, u64::from(sector.0))?;
     put_bytes(text, b" seed ")?;
-    put_integral(text, &relation.seed)?;
+    put_integral(text, seed)?;
     put_bytes(text, b" field ")?;
-    put_whole(text, u64::from(relation.field))?;
-    put_bytes(text, b"\n")
+    put_whole(text, u64::from(field))
 }
 
 fn put_relation(text: &mut Vec<u8>, number: usize, relation: &Written) -> Result<(), NoMemory>
     ensures { OnOk result (text.new.items ≡ text.old.items ++ relation_text number relation.now) }
 {
-    put_heading(text, number, relation)?;
+    put_bytes(text, b"relation ")?;
+    put_origin(
+        text,
+        number,
+        relation.sector,
+        &relation.seed,
+        relation.field,
+    )?;
+    put_bytes(text, b"\n")?;
     put_row_line(text, b"row ", &relation.row)
 }
 

@@ -1,6 +1,6 @@
 // Systems.
 ghost use Rattle.std.specs.Prelude.{◌≡◌, ◌++◌, IfOk, OnOk, codes};
-ghost use Rattle.system_text.specs.Systems.{line, system_text};
+ghost use Rattle.system_text.specs.Systems.{line, body_text, fold_text, system_text};
 
 use crate::blocks::put_blocks;
 use crate::numbers::put_bytes;
@@ -11,19 +11,19 @@ use family::Name;
 use ibp_base::{List, NoMemory};
 use std::alloc::Global;
 
-fn put_heading(text: &mut Vec<u8>, name: &Name) -> Result<(), NoMemory>
-    ensures { OnOk result (text.new.items ≡ text.old.items
-        ++ line (codes "neatibp-system 1") ++ line (codes "family " ++ name.now)) }
+fn put_name(text: &mut Vec<u8>, name: &Name) -> Result<(), NoMemory>
+    ensures { OnOk result (text.new.items ≡ text.old.items ++ line (codes "family " ++ name.now)) }
 {
-    put_bytes(text, b"neatibp-system 1\nfamily ")?;
+    put_bytes(text, b"family ")?;
     put_bytes(text, name.as_bytes())?;
     put_bytes(text, b"\n")
 }
 
-fn put_system(text: &mut Vec<u8>, system: &System) -> Result<(), NoMemory>
-    ensures { OnOk result (text.new.items ≡ text.old.items ++ system_text system.now) }
+// All lines but the first.
+fn put_body(text: &mut Vec<u8>, system: &System) -> Result<(), NoMemory>
+    ensures { OnOk result (text.new.items ≡ text.old.items ++ body_text system.now) }
 {
-    put_heading(text, &system.name)?;
+    put_name(text, &system.name)?;
     put_blocks(text, system.sectors.as_slice())?;
     put_relations(text, system.relations.as_slice())?;
     put_reductions(text, system.reductions.as_slice())?;
@@ -37,6 +37,17 @@ pub fn print_system(alloc: Global, system: &System) -> Result<List<u8>, NoMemory
     ensures { IfOk result (λ text. text ≡ system_text system.now) }
 {
     let mut text = Vec::new(alloc);
-    put_system(&mut text, system)?;
+    put_bytes(&mut text, b"neatibp-system 1\n")?;
+    put_body(&mut text, system)?;
+    Ok(List::from_vec(text))
+}
+
+/// The text of a folded system: that of a system behind a first line of its own.
+pub fn print_fold(alloc: Global, system: &System) -> Result<List<u8>, NoMemory>
+    ensures { IfOk result (λ text. text ≡ fold_text system.now) }
+{
+    let mut text = Vec::new(alloc);
+    put_bytes(&mut text, b"neatibp-fold 1\n")?;
+    put_body(&mut text, system)?;
     Ok(List::from_vec(text))
 }

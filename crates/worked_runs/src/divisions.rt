@@ -9,6 +9,7 @@ use module_basis::{Basis, plain_run};
 use module_division::{normal_form, s_vector};
 use module_vec::Vector;
 use mono_order::{Monomial, Term, ZeroDominates};
+use pair_queue::PairOrder;
 use poly_text::{Numbers, parse_poly};
 use sparse_poly::Poly;
 use std::alloc::Global;
@@ -63,7 +64,7 @@ fn run_of(
         generator(alloc, &factor(alloc, baikov, 2, second)?, 2)?,
         generator(alloc, &baikov.scale(alloc, Residue::one().neg())?, 3)?,
     ];
-    let basis = plain_run(alloc, &generators, 100)?;
+    let basis = plain_run(alloc, &generators, 100, PairOrder::Terms)?;
     Ok(basis)
 }
 

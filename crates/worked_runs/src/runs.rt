@@ -6,6 +6,7 @@ use crate::vectors::{Entry, is_vector, vector};
 use module_basis::{Basis, BasisFault, plain_run, reduced_low};
 use module_vec::Vector;
 use mono_order::ZeroDominates;
+use pair_queue::PairOrder;
 use std::alloc::Global;
 use std::process::Abort;
 
@@ -74,12 +75,14 @@ fn reduces_to(
 fn the_run_of_a_plane_takes_three_of_its_four_pairs(rt: HostRuntime) {
     let alloc = rt.alloc();
     let generators = plane(&rt, alloc);
-    let basis = plain_run(alloc, &generators, 4).ok().expect(&rt, "a basis");
+    let basis = plain_run(alloc, &generators, 4, PairOrder::Terms)
+        .ok()
+        .expect(&rt, "a basis");
     assert!(rt; basis.pairs_taken() == 3);
     assert!(rt; are_vectors(&rt, alloc, basis.elements(), &ELEMENTS));
     let ascending = [ELEMENTS[4], ELEMENTS[3], ELEMENTS[5]];
     assert!(rt; reduces_to(&rt, alloc, &basis, &ascending));
-    let spent = plain_run(alloc, &generators, 2);
+    let spent = plain_run(alloc, &generators, 2, PairOrder::Terms);
     assert!(rt; matches!(spent, Err(BasisFault::PairsSpent)));
 }
 
@@ -90,9 +93,11 @@ fn the_run_of_a_tadpole_takes_two_of_its_three_pairs(rt: HostRuntime) {
         generator(&rt, alloc, &[(0, 1, 0, 1), (1, 0, 0, 1)]),
         generator(&rt, alloc, &[(0, 1, 0, -1), (0, 0, 0, -1), (2, 0, 0, 1)]),
     ];
-    let basis = plain_run(alloc, &generators, 2).ok().expect(&rt, "a basis");
+    let basis = plain_run(alloc, &generators, 2, PairOrder::Terms)
+        .ok()
+        .expect(&rt, "a basis");
     assert!(rt; basis.pairs_taken() == 2);
-    let spent = plain_run(alloc, &generators, 1);
+    let spent = plain_run(alloc, &generators, 1, PairOrder::Terms);
     assert!(rt; matches!(spent, Err(BasisFault::PairsSpent)));
 }
 
@@ -103,6 +108,6 @@ fn a_pair_above_the_degree_of_a_run_ends_it(rt: HostRuntime) {
         generator(&rt, alloc, &[(0, 600, 0, 1), (1, 0, 0, 1)]),
         generator(&rt, alloc, &[(0, 0, 600, 1), (2, 0, 0, 1)]),
     ];
-    let over = plain_run(alloc, &generators, 10);
+    let over = plain_run(alloc, &generators, 10, PairOrder::Terms);
     assert!(rt; matches!(over, Err(BasisFault::DegreeOver)));
 }

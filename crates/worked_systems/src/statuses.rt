@@ -4,7 +4,7 @@ use family_file::FileFault;
 use sector_lattice::Sector;
 
 const USAGE: &str =
-    "usage: neatibp identity | basis N | plain | system --workers W | drill N | cut N";
+    "usage: neatibp identity | basis N | plain | system --workers W | drill N | meet N | cut N | fold";
 
 // Each status with its exit status and its message.
 const STATUSES: [(Status, u8, &str); 14] = [

@@ -1,4 +1,4 @@
-use Rattle.std.proofs.Common.{◌≤◌, length, inr, ⊎_elim, sym, arith}
+use Rattle.std.proofs.Common.{◌≤◌, length, inr, ⊎_elim, sym, refl, arith}
 use Rattle.std.proofs.Math.ListN.{drop_of_length-le}
 use Rattle.sparse_terms.proofs.Merging.{Merging-end, left_at, right_at, both_at, left_alone, right_alone}
 use Rattle.sparse_terms.proofs.add_multiple.Goals as goal
@@ -24,7 +24,7 @@ both-preserved g c = record {
   left_within = omega arith;
   right_within = omega arith;
   merging = both_at g.O.KeyOrder.order g.met.O.KeyOrder.total g.met.O.KeyOrder.unique _ _ _ _ _ _ _ _ _ _ _ _ c.both-test.true c.index-left-i.is c.if-j-right.true c.index-right-j.is
-      (sym c.in-Equal.ensures) c.mul-in-Equal.ensures c.add.ensures c.in_ok-push_term-in-Equal.ensures c.both.invariant.merging;
+      (sym c.in-Equal.ensures) refl c.add_product.ensures c.in_ok-push_term-in-Equal.ensures c.both.invariant.merging;
 }
 
 pub left-preserved : goal.left-preserved

@@ -3,7 +3,7 @@ use Rattle.ibp_algebra.specs.FormalSum.{map_keys}
 use Rattle.sparse_rows.specs.Rows.{IntegralSum, SameRow}
 use Rattle.cut_family.specs.Lifting.{lifted_integral}
 use Rattle.cut_family.proofs.PlaceLaws.{from_empty}
-use Rattle.cut_family.proofs.RowSums.{row_is}
+use Rattle.sparse_rows.proofs.RowSums.{row_is}
 use Rattle.cut_family.proofs.lifting.lifted_row.Goals as goal
 
 pub returns : goal.returns

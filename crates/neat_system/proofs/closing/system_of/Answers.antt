@@ -4,8 +4,9 @@ use Rattle.std.proofs.lemmas.List.{length-map}
 use Rattle.sector_lattice.specs.Sectors.{integral_cmp}
 use Rattle.sparse_rows.specs.Rows.{IntegralSum}
 use Rattle.family.specs.FamilyView.{family_view}
-use Rattle.neat_system.specs.Reductions.{declared_row}
-use Rattle.neat_system.proofs.PickedPlaces.{places_within, few_places, as_many_forms, as_many_weights}
+use Rattle.relation_pick.proofs.ByRows.{names_written}
+use Rattle.target_rows.specs.Reductions.{declared_row}
+use Rattle.target_rows.proofs.PickedPlaces.{places_within, few_places, as_many_forms, as_many_weights}
 use Rattle.neat_system.proofs.closing.system_of.Goals as goal
 
 pub relations_at-requires-clause-places : goal.relations_at-requires-clause-places
@@ -24,6 +25,11 @@ reductions_of-requires-clause-few c =
     let few = few_places integral_cmp c.deref.result.now c.deref-2.result.now picked.written picked.reductions picked.weights c.in_ok-picked.ensures.pick in
     let same : length c.deref.result.now ≡ length c.args.gathered.candidates.items = ap length c.deref.ensures.value in
     omega (arith, few, same, c.requires.few)
+
+pub reductions_of-requires-clause-listed : goal.reductions_of-requires-clause-listed
+reductions_of-requires-clause-listed c =
+    let picked = c.in_ok-picked.picked in
+    names_written integral_cmp c.deref.result.now c.deref-2.result.now picked.written picked.reductions picked.weights c.in_ok-picked.ensures.pick
 
 pub reductions_of-requires-clause-forms : goal.reductions_of-requires-clause-forms
 reductions_of-requires-clause-forms c =

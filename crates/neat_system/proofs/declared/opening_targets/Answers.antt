@@ -1,7 +1,7 @@
 use Rattle.std.proofs.Common.{ℤ, List, not, cond, [], ◌∷◌, ◌++◌, take, append-nil, sym, ◌∙◌, ap}
 use Rattle.std.specs.Prelude.{filter}
 use Rattle.sparse_rows.specs.Rows.{is_zero_integral}
-use Rattle.neat_system.proofs.TargetRows.{is_zero_at, kept_more}
+use Rattle.target_rows.proofs.TargetRows.{is_zero_at, kept_more}
 use Rattle.neat_system.proofs.declared.opening_targets.Goals as goal
 use Rattle.neat_system.proofs.declared.opening_targets.Goals.{then-not-is_zero+in_ok-push, else-not-is_zero}
 

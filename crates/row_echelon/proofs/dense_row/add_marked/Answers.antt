@@ -1,4 +1,4 @@
-use Rattle.std.proofs.Common.{◌<◌, length, ◌∙◌, rules, arith}
+use Rattle.std.proofs.Common.{◌<◌, length, refl, ◌∙◌, rules, arith}
 use Rattle.std.proofs.lemmas.List.{get_or_default}
 use Rattle.row_echelon.proofs.Marking.{IsMarked-add}
 use Rattle.row_echelon.proofs.Substituting.{AllKeys-item, step_added}
@@ -37,6 +37,6 @@ loop-column-preserved c =
       sum = step_added c.loop-column.values c.args.values.now c.args.terms.now c.loop-column.column-index c.loop-column-item.result c.args.factor _ _ _ c.loop-column-test.true c.loop-column-item.is
           (omega (arith, c.loop-column.auto.values))
           (c.index-values-column.is ∙ get_or_default c.loop-column.values c.loop-column-item.result.0 c.index-values-column.result 0 (omega (arith, c.loop-column.auto.values)))
-          c.mul.ensures c.add.ensures c.loop-column.invariant.sum;
+          refl c.add_product.ensures c.loop-column.invariant.sum;
       marked = IsMarked-add c.loop-column.values c.loop-column.marks c.loop-column-item.result.0 _ (omega (arith, c.loop-column.auto.values)) c.loop-column.invariant.marked;
     }

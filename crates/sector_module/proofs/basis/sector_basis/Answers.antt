@@ -67,7 +67,7 @@ returns-clause-members c =
 pub returns-clause-few : goal.returns-clause-few
 returns-clause-few c =
     let family = c.args.family.now in
-    let counts = run_counts zero_dominates RUN_DEGREE family.budget.pairs c.deref.result.now c.in_ok-run.run'.elements c.in_ok-run.run'.taken c.in_ok-run.ensures.done in
+    let counts = run_counts zero_dominates c.in_ok-by.by RUN_DEGREE family.budget.pairs c.deref.result.now c.in_ok-run.run'.elements c.in_ok-run.run'.taken c.in_ok-run.ensures.done in
     omega (
       arith,
       counts.0,

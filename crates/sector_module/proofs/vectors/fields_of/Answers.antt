@@ -6,7 +6,7 @@ use Rattle.sector_module.specs.FieldsOf.{IsFieldOf}
 use Rattle.sector_module.proofs.vectors.fields_of.Goals as goal
 
 pub loop-vector-preserved : goal.loop-vector-preserved
-loop-vector-preserved c =
+loop-vector-preserved g c =
     subst (AllZip (IsFieldOf RUN_DEGREE c.args.n) (take (c.loop-vector.vector-index + 1) c.args.vectors.now)) (sym c.in_ok-push.ensures.items)
     (zip_more (IsFieldOf RUN_DEGREE c.args.n) c.args.vectors.now c.loop-vector.fields.items c.loop-vector.vector-index c.vector-item.result c.in_ok-field_of.field-0 c.loop-vector-test.true
     c.vector-item.is c.loop-vector.invariant c.in_ok-field_of.ensures)

@@ -5,4 +5,4 @@ use Rattle.sector_module.specs.FieldsOf.{IsFieldOf}
 use Rattle.sector_module.proofs.vectors.fields_of.Given as goal
 
 abbrev pub invariant-loop-vector : goal.invariant-loop-vector
-invariant-loop-vector l = AllZip (IsFieldOf RUN_DEGREE l.n) (take l.vector-index l.vectors) l.fields.items
+invariant-loop-vector g l = AllZip (IsFieldOf RUN_DEGREE l.n) (take l.vector-index l.vectors) l.fields.items

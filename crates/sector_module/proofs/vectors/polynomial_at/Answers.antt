@@ -5,7 +5,7 @@ use Rattle.ibp_algebra.proofs.Degrees.{AllKeys-same}
 use Rattle.sector_module.proofs.vectors.polynomial_at.Goals as goal
 
 pub returns : goal.returns
-returns c =
+returns g c =
     let p = c.in_ok-polynomial.polynomial in
     let is : c.as_slice.result.now ≡ c.in_ok-terms.terms = c.as_slice.ensures in
     let same : SamePolynomial p c.in_ok-terms.terms = subst (SamePolynomial p) is c.in_ok-polynomial.ensures.sum in

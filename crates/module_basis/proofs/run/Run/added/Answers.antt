@@ -2,8 +2,8 @@ use Rattle.std.proofs.Common.{◌≡◌, ◌+◌, ◌++◌, ◌∷◌, [], List,
 use Rattle.std.proofs.lemmas.List.{map-append, length-map}
 use Rattle.mono_order.specs.declared.limits.TheConstants.{VARIABLES}
 use Rattle.pair_queue.specs.declared.queue.Pair.{Pair}
-use Rattle.pair_queue.specs.Pairs.{insert_pairs}
-use Rattle.module_vec.specs.ModuleVector.{ModuleVector, lead, IsMonicVector}
+use Rattle.pair_queue.specs.Pairs.{compare_pairs, insert_pairs}
+use Rattle.module_vec.specs.ModuleVector.{lead, IsMonicVector}
 use Rattle.module_basis.specs.PlainRun.{RunState, run_state, AreNewPairs, pairs_with, IsSoundState}
 use Rattle.module_basis.proofs.Forming.{AreNewPairs-formed, IsSoundState-added}
 use Rattle.module_basis.proofs.run.Run.added.Goals as goal
@@ -16,8 +16,8 @@ push_all-requires g c =
     let pairs : c.deref-2.result.now ≡ pairs_with (length c.self.inside.elements.items + 1) (lead c.args.element) 1 c.self.inside.elements.items =
     formed ∙ (c.in_ok-formed.ensures.formed ∙ (λ i. pairs_with (length (elements i) + 1) (c.lead_term-lead.ensures.lead i) 1 (elements i)))
     in
-    subst (λ (l : List Pair). AreNewPairs order l c.self.inside.pairs) (sym pairs)
-    (AreNewPairs-formed order VARIABLES (run_state c.self.inside.elements.items c.self.inside.pairs c.self.inside.taken) c.args.element c.self.invariant.0)
+    subst (λ (l : List Pair). AreNewPairs (compare_pairs order c.self.inside.pairs.by) l c.self.inside.pairs.pairs) (sym pairs)
+    (AreNewPairs-formed order VARIABLES (run_state c.self.inside.pairs.by c.self.inside.elements.items c.self.inside.pairs.pairs c.self.inside.taken) c.args.element c.self.invariant.0)
 
 pub invariant_of-result : goal.invariant_of-result
 invariant_of-result g c =
@@ -29,13 +29,14 @@ invariant_of-result g c =
     in
     let kept = c.lead_term-lead.ensures.kept in
     let monic : IsMonicVector order VARIABLES c.args.element = record { canonical = kept.canonical; terms = kept.terms; monic = c.requires.monic } in
-    let queue : c.push_all.new.queue ≡ insert_pairs order (pairs_with (length c.self.inside.elements.items + 1) (lead c.args.element) 1 c.self.inside.elements.items) c.self.inside.pairs =
-    c.in_ok-push_all.ensures ∙ ap (λ (l : List Pair). insert_pairs order l c.self.inside.pairs) pairs
+    let by = c.self.inside.pairs.by in
+    let queue : c.push_all.new.queue.pairs ≡ insert_pairs (compare_pairs order by) (pairs_with (length c.self.inside.elements.items + 1) (lead c.args.element) 1 c.self.inside.elements.items) c.self.inside.pairs.pairs =
+    c.in_ok-push_all.ensures.added ∙ ap (λ (l : List Pair). insert_pairs (compare_pairs order by) l c.self.inside.pairs.pairs) pairs
     in
     let items : c.push.new.self.items ≡ c.self.inside.elements.items ++ c.args.element ∷ [] = c.in_ok-push.ensures.items in
-    let sound = IsSoundState-added order VARIABLES (run_state c.self.inside.elements.items c.self.inside.pairs c.self.inside.taken) c.args.element c.self.inside.taken c.self.invariant.0 monic in
-    let state = subst (λ (l : List ModuleVector). IsSoundState order VARIABLES (run_state l c.push_all.new.queue c.self.inside.taken)) (sym items)
-    (subst (λ (l : List Pair). IsSoundState order VARIABLES (run_state (c.self.inside.elements.items ++ c.args.element ∷ []) l c.self.inside.taken)) (sym queue) sound)
+    let sound = IsSoundState-added order VARIABLES (run_state c.self.inside.pairs.by c.self.inside.elements.items c.self.inside.pairs.pairs c.self.inside.taken) c.args.element c.self.inside.taken c.self.invariant.0 monic in
+    let state = subst (IsSoundState order VARIABLES)
+    (λ i. run_state (sym c.in_ok-push_all.ensures.by i) (sym items i) (sym queue i) c.self.inside.taken) sound
     in
     let leads : c.add.new.self ≡ map lead c.self.inside.elements.items ++ lead c.args.element ∷ [] =
     c.in_ok-add.ensures.added ∙ (λ i. c.self.invariant.1 i ++ c.lead_term-lead.ensures.lead i ∷ [])

@@ -1,0 +1,9 @@
+pub mod Stripping
+pub mod DividedSyzygies
+pub mod Meeting
+pub mod Generated
+pub mod StrippedModule
+pub mod Meets
+pub mod OneEnd
+pub mod MeetLaws
+pub mod VectorLists

@@ -1,7 +1,0 @@
-use Rattle.std.proofs.Common.{◌≡◌, take}
-use Rattle.ibp_algebra.specs.FormalSum.{map_keys}
-use Rattle.neat_system.specs.Reductions.{number_of}
-use Rattle.neat_system.proofs.reductions.numbered.Given as goal
-
-abbrev pub invariant-loop-place : goal.invariant-loop-place
-invariant-loop-place l = l.numbered.items ≡ map_keys (number_of l.written) (take l.place-index l.weights)

@@ -1,6 +1,0 @@
-use Rattle.std.proofs.Common.{◌≡◌, take}
-use Rattle.neat_system.specs.Reductions.{reductions_of}
-use Rattle.neat_system.proofs.reductions.reductions_of.Given as goal
-
-abbrev pub invariant-loop-place : goal.invariant-loop-place
-invariant-loop-place l = l.reductions.items ≡ reductions_of l.picked.written (take l.place l.targets) l.picked.reductions l.picked.weights

@@ -1,0 +1,7 @@
+pub mod ImageRanges
+pub mod Lowest
+pub mod ImageSectors
+pub mod SymmetryTests
+pub mod FirstBroken
+pub mod ImageLaws
+pub mod OneFold

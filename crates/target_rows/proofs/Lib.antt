@@ -1,0 +1,3 @@
+pub mod PickedPlaces
+pub mod Reducing
+pub mod TargetRows
