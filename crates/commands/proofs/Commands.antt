@@ -21,6 +21,7 @@ text_accepts command.Plain family text is = is.of
 text_accepts (command.Meet number) family text is = is.of
 text_accepts (command.Cut number) family text is = is.of
 text_accepts command.Fold family text is = is.of
+text_accepts (command.Drill number) family text is = is.of
 
 pub not_refused : (asked : Command) (family : FamilyData) (status : Status) → DataWithin family → Accepts asked family → Refuses asked family status → ⊥
 not_refused command.Identity family status within met refused = identity_not_refused family status met refused
@@ -29,6 +30,7 @@ not_refused command.Plain family status within met refused = plain_not_refused f
 not_refused (command.Meet number) family status within met refused = meet_not_refused family number status within met refused
 not_refused (command.Cut number) family status within met refused = cut_not_refused family number status within met refused
 not_refused command.Fold family status within met refused = fold_not_refused family status within met refused
+not_refused (command.Drill number) family status within met refused = plain_not_refused family status within met refused
 
 pub refused_once : (asked : Command) (family : FamilyData) (first second : Status) → DataWithin family → Refuses asked family first → Refuses asked family second → first ≡ second
 refused_once command.Identity family first second within refused also = identity_once family first second refused also
@@ -37,3 +39,4 @@ refused_once command.Plain family first second within refused also = plain_once 
 refused_once (command.Meet number) family first second within refused also = meet_once family number first second within refused also
 refused_once (command.Cut number) family first second within refused also = cut_once family number first second within refused also
 refused_once command.Fold family first second within refused also = fold_once family first second within refused also
+refused_once (command.Drill number) family first second within refused also = plain_once family first second within refused also

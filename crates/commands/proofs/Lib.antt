@@ -18,3 +18,4 @@ pub mod WordSorts
 pub mod WorkersRows
 pub mod WorkersWalks
 pub mod Lists
+pub mod Drills

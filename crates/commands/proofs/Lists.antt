@@ -10,7 +10,7 @@ use Rattle.clap.proofs.OnLiterals.{clap_on_literals}
 use Rattle.commands.specs.Words.{alone, with_number, command_of, is_number, number_in}
 use Rattle.commands.specs.WordLists.{listed, without_mark}
 use Rattle.commands.specs.declared.words.Command.{Command}
-use Rattle.commands.specs.declared.words.Command.TheVariants.{Identity, Basis, Plain, Meet, Cut, Fold}
+use Rattle.commands.specs.declared.words.Command.TheVariants.{Identity, Basis, Plain, Meet, Cut, Fold, Drill}
 use Rattle.commands.proofs.Walks.{rules, at, comes, blocked, passed, from_start, cond_same}
 use Rattle.commands.proofs.WordSorts.{mark, Sort, Starts, IsPlain, is_mark, is_plain, is_unknown, is_workers, sort_of}
 use Rattle.commands.proofs.WorkersWalks.{unknown_comes, workers_come}
@@ -99,7 +99,8 @@ passed_over test other none = ap (λ (o : Option Command). cond test None o) non
 
 number_dashed : (word number : Text) → Starts number → with_number word number ≡ None
 number_dashed word number s =
-    rw (no_number number s) (passed_over (bytes_eq word (codes "basis")) _ (passed_over (bytes_eq word (codes "meet")) _ (cond_same (bytes_eq word (codes "cut")) None)))
+    rw (no_number number s)
+    (passed_over (bytes_eq word (codes "basis")) _ (passed_over (bytes_eq word (codes "meet")) _ (passed_over (bytes_eq word (codes "cut")) _ (cond_same (bytes_eq word (codes "drill")) None))))
 
 listed_dashed : (word : Text) (words : List Text) → Starts word → listed (word ∷ words) ≡ None
 listed_dashed word [] s = alone_dashed word s
@@ -163,6 +164,9 @@ meet_is number digits = reads_lists (codes "meet" ∷ number ∷ []) ∙ rw (num
 
 pub cut_is : (number : Text) → is_number number ≡ true → command_of (codes "cut" ∷ number ∷ []) ≡ Some (Cut (digits_value 10 number))
 cut_is number digits = reads_lists (codes "cut" ∷ number ∷ []) ∙ rw (number_apart number _ refl digits, number_is number digits) refl
+
+pub drill_is : (number : Text) → is_number number ≡ true → command_of (codes "drill" ∷ number ∷ []) ≡ Some (Drill (digits_value 10 number))
+drill_is number digits = reads_lists (codes "drill" ∷ number ∷ []) ∙ rw (number_apart number _ refl digits, number_is number digits) refl
 
 pub identity_is : command_of (codes "identity" ∷ []) ≡ Some Identity
 identity_is = reads_lists (codes "identity" ∷ [])

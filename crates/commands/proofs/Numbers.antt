@@ -11,11 +11,11 @@ use Rattle.clap.proofs.WalkLemmas.{both}
 use Rattle.std.proofs.lemmas.Str.Parse.{IsNumeralModel, numerals_by_value, tells_all_ascii_digits, parse_gives, digits_value_short}
 use Rattle.commands.specs.Words.{is_number, number_in}
 
-digits_tested : (ds : List ℕ) → list_all is_ascii_digit ds ≡ all_ascii_digits ds
+pub digits_tested : (ds : List ℕ) → list_all is_ascii_digit ds ≡ all_ascii_digits ds
 digits_tested [] = refl
 digits_tested (d ∷ ds) = ap (λ b. is_ascii_digit d && b) (digits_tested ds)
 
-numerals : IsNumeralModel (λ ds. all_ascii_digits ds ≡ true) (digits_value 10)
+pub numerals : IsNumeralModel (λ ds. all_ascii_digits ds ≡ true) (digits_value 10)
 numerals = numerals_by_value _ tells_all_ascii_digits
 
 -- a number is read with its value

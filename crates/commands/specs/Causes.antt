@@ -1,7 +1,10 @@
--- The cause of each status, for a command and what the file gives.
-use Rattle.std.specs.Prelude.{◌≡◌, ◌⊎◌, ℕ, List, Vec, Option, Some, None, drop, Result, Ok, Err, IsOkAnd, ⊤}
+-- The cause of each status, for a command and what it is given.
+use Rattle.std.specs.Prelude.{◌≡◌, ◌≤◌, ◌+◌, ◌⊎◌, ℕ, List, Vec, Option, Some, None, drop, Result, Ok, Err, IfSome, IsOkAnd, ⊤}
 use Rattle.std.specs.declared.alloc.Global.{Global}
 use Rattle.std.specs.Io.KnownBytes.{Keeps, Appends}
+use Rattle.family_file.specs.declared.limits.TheConstants.{DRILL_LIMIT, MAX_FILE}
+use Rattle.family_file.specs.Drill.{drill_data}
+use Rattle.family_file.specs.Family.{family_of}
 use Rattle.family_file.specs.declared.fault.FileFault.{FileFault}
 use Rattle.family_file.specs.declared.need.Need.{Need}
 use Rattle.family_file.specs.declared.need.Need.TheVariants as needs
@@ -10,7 +13,9 @@ use Rattle.commands.specs.Answers.{IsAnswer}
 use Rattle.commands.specs.Basis.{IsBasisText, IsRunDone, RefusesBasis}
 use Rattle.commands.specs.Cut.{HasCutSystem, IsCutText, RefusesCut}
 use Rattle.commands.specs.Fold.{HasFold, IsFoldText, RefusesFold}
+use Rattle.commands.specs.Drill.{IsSummaryText}
 use Rattle.commands.specs.Identity.{IsIdentityText, MeetsProbe, RefusesIdentity}
+use Rattle.commands.specs.Input.{TakesFront}
 use Rattle.commands.specs.Output.{AppendsFront}
 use Rattle.commands.specs.Meet.{HasMeet, IsMeetText, RefusesMeet}
 use Rattle.commands.specs.Plain.{HasSystem, IsSystemText, RefusesPlain}
@@ -28,6 +33,18 @@ need_of command.Plain = needs.Family
 need_of (command.Meet number) = needs.Sector number
 need_of (command.Cut number) = needs.Sector number
 need_of command.Fold = needs.Family
+need_of (command.Drill number) = needs.Family
+
+-- what a command is given: a drill its own family, and each other the family of a file, or the first fault of the file
+abbrev pub given_of : Command → List ℕ → Result FamilyData FileFault
+given_of (command.Drill number) input = Ok (drill_data number)
+given_of asked input = family_of (need_of asked) input
+
+-- It holds of what the command is given, where that is known: for a drill always, and else where the source tells the
+-- bytes that are left.
+abbrev pub IfGiven : Command → Option (List ℕ) → (Result FamilyData FileFault → Type 0) → Type 0
+IfGiven (command.Drill number) left P = P (Ok (drill_data number))
+IfGiven asked left P = IfSome left (λ input. P (given_of asked input))
 
 -- the text that a command writes of a family
 abbrev pub IsTextOf : Command → FamilyData → List ℕ → Type 0
@@ -37,6 +54,7 @@ IsTextOf command.Plain family text = IsSystemText family text
 IsTextOf (command.Meet number) family text = IsMeetText family number text
 IsTextOf (command.Cut number) family text = IsCutText family number text
 IsTextOf command.Fold family text = IsFoldText family text
+IsTextOf (command.Drill number) family text = IsSummaryText family number text
 
 -- the statuses by which a command refuses a family
 abbrev pub Refuses : Command → FamilyData → Status → Type 0
@@ -46,6 +64,7 @@ Refuses command.Plain family status = RefusesPlain family status
 Refuses (command.Meet number) family status = RefusesMeet family number status
 Refuses (command.Cut number) family status = RefusesCut family number status
 Refuses command.Fold family status = RefusesFold family status
+Refuses (command.Drill number) family status = RefusesPlain family status
 
 -- a status by which the file or the command refuses
 abbrev pub IsRefused : Command → Result FamilyData FileFault → Status → Type 0
@@ -64,8 +83,9 @@ Accepts command.Plain family = HasSystem family
 Accepts (command.Meet number) family = HasMeet family number
 Accepts (command.Cut number) family = HasCutSystem family number
 Accepts command.Fold family = HasFold family
+Accepts (command.Drill number) family = HasSystem family
 
--- What a status tells of what the file gives, and of the bytes that the sink took.
+-- What a status tells of what the command is given, and of the bytes that the sink took.
 abbrev pub Tells : Command → Result FamilyData FileFault → Option (List ℕ) → Option (List ℕ) → Status → Type 0
 Tells asked given before now Done = (text : List ℕ) × IsOkAnd given (λ family. IsTextOf asked family text) × Appends before now text
 Tells asked given before now WriteFault = (text : List ℕ) × IsOkAnd given (λ family. IsTextOf asked family text) × AppendsFront before now text
@@ -80,6 +100,21 @@ abbrev pub IsReadThrough : ℕ → Option (List ℕ) → Option (List ℕ) → T
 IsReadThrough n None now = ⊤
 IsReadThrough n (Some input) now = now ≡ Some (drop n input)
 
+-- a command that reads a file
+abbrev pub ReadsFile : Command → Type 0
+ReadsFile (command.Drill number) = ⊥
+ReadsFile asked = ⊤
+
+-- the number of a drill is within its limit
+abbrev pub IsWithinDrills : Command → Type 0
+IsWithinDrills (command.Drill number) = number ≤ DRILL_LIMIT
+IsWithinDrills asked = ⊤
+
+-- what a command takes of the source: the bytes up to one more than the limit of a file, or for a drill none
+abbrev pub Takes : Command → Option (List ℕ) → Option (List ℕ) → List ℕ → Type 0
+Takes (command.Drill number) before now bytes = Keeps before now
+Takes asked before now bytes = TakesFront (MAX_FILE + 1) before now bytes
+
 -- a status that comes only once the source was read
 abbrev pub IsReached : Status → Type 0
 IsReached Usage = ⊥
@@ -87,6 +122,6 @@ IsReached ReadFault = ⊥
 IsReached NoMemory = ⊥
 IsReached status = ⊤
 
--- What a function gave of a file is the command's text of its family, or why the file or the command refuses.
+-- What a function gave is the command's text of the family, or why the file or the command refuses.
 abbrev pub Answers : Command → Result FamilyData FileFault → Result (Vec ℕ Global) Refusal → Type 0
 Answers asked given result = IsAnswer (λ text. IsOkAnd given (λ family. IsTextOf asked family text)) (IsRefused asked given) result

@@ -13,5 +13,6 @@ pub mod Plain
 pub mod Meet
 pub mod Cut
 pub mod Fold
+pub mod Drill
 pub mod Causes
 pub mod OneText

@@ -5,6 +5,7 @@
 --     meet N      Meet of N's value, likewise
 --     cut N       Cut of N's value, likewise
 --     fold        Fold
+--     drill N     Drill of N's value, likewise
 -- The first `--` of a list ends the options, and counts for nothing else.
 use Rattle.std.specs.Prelude.{List, [], ◌∷◌, codes, Option, None, if◌then◌else◌}
 use Rattle.std.specs.Str.{bytes_eq}

@@ -1,4 +1,4 @@
--- The commands, as what the words give to each argument. A command that is not built yet has no row.
+-- The commands, as what the words give to each argument.
 --     command   number                 workers
 --     identity  absent                 absent
 --     basis     one to four digits     absent
@@ -6,6 +6,7 @@
 --     meet      one to four digits     absent
 --     cut       one to four digits     absent
 --     fold      absent                 absent
+--     drill     one to four digits     absent
 use Rattle.std.specs.Prelude.{◌&&◌, ℕ, nat_le, Bool, codes, length, List, Option, Some, None, option_map, option_and_then, if◌then◌else◌}
 use Rattle.std.specs.Char.{is_ascii_digit}
 use Rattle.std.specs.List.{list_all}
@@ -14,7 +15,7 @@ use Rattle.std.specs.Str.Parse.{digits_value}
 use Rattle.clap.specs.Walk.{Row, Text, first_of}
 use Rattle.commands.specs.Program.{rows_found}
 use Rattle.commands.specs.declared.words.Command.{Command}
-use Rattle.commands.specs.declared.words.Command.TheVariants.{Identity, Basis, Plain, Meet, Cut, Fold}
+use Rattle.commands.specs.declared.words.Command.TheVariants.{Identity, Basis, Plain, Meet, Cut, Fold, Drill}
 
 -- one to four digits
 abbrev pub is_number : Text → Bool
@@ -35,6 +36,7 @@ with_number word number =
     if bytes_eq word (codes "basis") then option_map Basis (number_in number)
     else if bytes_eq word (codes "meet") then option_map Meet (number_in number)
     else if bytes_eq word (codes "cut") then option_map Cut (number_in number)
+    else if bytes_eq word (codes "drill") then option_map Drill (number_in number)
     else None
 
 -- the command of what stands at each argument

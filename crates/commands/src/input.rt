@@ -1,10 +1,13 @@
-//! The bytes of a source.
+//! The bytes of a source, and what a command takes of them.
 
-ghost use Rattle.std.specs.Prelude.{◌≡◌, ◌+◌, ◌^◌, ◌<◌, ◌≤◌, vec_len, IfOk, IsErrOf};
+ghost use Rattle.std.specs.Prelude.{◌≡◌, ◌+◌, ◌^◌, ◌<◌, ◌≤◌, vec_len, IfOk, IsOk, IsErrOf};
 ghost use Rattle.ibp_outside.specs.Causes.{Rose};
+ghost use Rattle.commands.specs.Causes.{ReadsFile, Takes};
 ghost use Rattle.commands.specs.Input.{TakesFront};
 ghost use Rattle.commands.specs.declared.input.InputFault.TheVariants.{Failed as ReadFailed, NoMemory};
 
+use crate::words::Command;
+use family_file::MAX_FILE;
 use ibp_outside::{Failed, Source};
 use std::alloc::{AllocError, Global};
 
@@ -58,4 +61,24 @@ pub fn read_input<S: Source>(
         bytes.extend_from_slice(&buf[..count])?;
     }
     Ok(bytes)
+}
+
+/// What a command takes of a source: the bytes to its end, or one more than a file may have; nothing for a drill, which
+/// leaves the source as it was.
+pub fn input_of<S: Source>(
+    alloc: Global,
+    command: Command,
+    source: &mut S,
+) -> Result<Vec<u8>, InputFault>
+    ensures bytes { IfOk result (λ v. Takes command (S.left source.old) (S.left source.new) v.items) }
+    ensures given { ¬ ReadsFile command → IsOk result }
+    ensures untouched { ¬ ReadsFile command → source.new ≡ source.old }
+    ensures failed { IsErrOf result InputFault.Failed
+        → Rose (S.faults source.old) (S.faults source.new) }
+    ensures later { S.faults source.old ≤ S.faults source.new }
+{
+    match command {
+        Command::Drill(_) => Ok(Vec::new(alloc)),
+        _ => read_input(alloc, source, MAX_FILE),
+    }
 }

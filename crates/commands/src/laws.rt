@@ -19,11 +19,13 @@ pub fn lists_are_commands()
     ensures cut { (number : List ℕ) → is_number number ≡ true
         → command_of (codes "cut" ∷ number ∷ []) ≡ Some (command.Cut (digits_value 10 number)) }
     ensures fold { command_of (codes "fold" ∷ []) ≡ Some command.Fold }
+    ensures drill { (number : List ℕ) → is_number number ≡ true
+        → command_of (codes "drill" ∷ number ∷ []) ≡ Some (command.Drill (digits_value 10 number)) }
     ensures every_list { (words : List (List ℕ))
         → command_of words ≡ listed (without_mark words) }
 {}
 
-/// A file determines the text that a command writes of it.
+/// A file determines the text that a command writes of it, and the number of a drill the text of the drill.
 pub fn one_text()
     ensures { OneText }
 {}

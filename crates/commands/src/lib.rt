@@ -5,6 +5,7 @@
 mod answer;
 mod basis;
 mod cut;
+mod drill;
 mod fold;
 mod identity;
 mod input;

@@ -1,25 +1,24 @@
 //! The top call.
 
-ghost use Rattle.std.specs.Prelude.{◌≡◌, ◌≢◌, ◌≤◌, ◌+◌, ◌⊎◌, map, string_bytes, None, Some, IfSome, IsOkAnd};
+ghost use Rattle.std.specs.Prelude.{◌≡◌, ◌≢◌, ◌≤◌, ◌+◌, ◌⊎◌, map, string_bytes, None, Some, IsOkAnd};
 ghost use Rattle.std.specs.Io.KnownBytes.{Keeps};
 ghost use Rattle.ibp_outside.specs.Causes.{Rose};
-ghost use Rattle.family_file.specs.Family.{family_of};
 ghost use Rattle.commands.specs.Words.{command_of};
-ghost use Rattle.commands.specs.Causes.{need_of, Accepts, Tells, IsRefused, IsAnswered, IsReached, IsReadThrough};
+ghost use Rattle.commands.specs.Causes.{Accepts, IfGiven, IsAnswered, IsReached, IsReadThrough, IsRefused, ReadsFile, Tells};
 ghost use Rattle.commands.specs.declared.words.Command.{Command};
 ghost use Rattle.commands.specs.declared.status.Status.{Status};
+ghost use Rattle.family_file.specs.declared.limits.TheConstants.{MAX_FILE};
 
 use crate::answer::text_of;
-use crate::input::read_input;
+use crate::input::input_of;
 use crate::output::write_text;
 use crate::status::Status;
 use crate::words::command_of;
-use family_file::MAX_FILE;
 use ibp_outside::{Failed, Sink, Source};
 use std::alloc::Global;
 
-/// Does what the words ask for with the bytes of the source, and writes the text to the sink. The words
-/// have no name of a program in front.
+/// Does what the words ask for with the bytes of the source, and writes the text to the sink. A drill reads nothing.
+/// The words have no name of a program in front.
 pub fn run_calm<S: Source, K: Sink>(
     alloc: Global,
     words: &[String],
@@ -32,24 +31,31 @@ pub fn run_calm<S: Source, K: Sink>(
         → (result ≡ Status.Usage) ⊎ (result ≡ Status.NoMemory) }
     ensures nothing_read { result ≡ Status.Usage → Keeps (S.left source.old) (S.left source.new) }
 
-    // What the status tells of the file, and what the sink took.
+    // What the status tells of the file, or of the drill's family, and what the sink took.
     ensures told { (command : Command) → command_of (map string_bytes words.now) ≡ Some command →
-        IfSome (S.left source.old) (λ input. Tells command (family_of (need_of command) input)
+        IfGiven command (S.left source.old) (λ given. Tells command given
         (K.taken sink.old) (K.taken sink.new) result) }
 
     // Where the file has a fault, or the command refuses its family, that is the answer.
     ensures refused { (command : Command) (status : Status)
         → command_of (map string_bytes words.now) ≡ Some command →
-        IfSome (S.left source.old) (λ input.
-        IsRefused command (family_of (need_of command) input) status → IsAnswered status result) }
+        IfGiven command (S.left source.old) (λ given.
+        IsRefused command given status → IsAnswered status result) }
 
     // Only a run that is done, or that the sink stopped, writes.
     ensures nothing_written { result ≢ Status.Done → result ≢ Status.WriteFault →
         Keeps (K.taken sink.old) (K.taken sink.new) }
 
-    // Every other status comes after the source was read to its end, or past the limit.
-    ensures read_through { IsReached result
+    // Every other status of a command that reads a file comes after the source was read to its end, or past the limit.
+    ensures read_through { (command : Command) → command_of (map string_bytes words.now) ≡ Some command
+        → ReadsFile command → IsReached result
         → IsReadThrough (MAX_FILE + 1) (S.left source.old) (S.left source.new) }
+
+    // No other command touches the source, so none has a fault of reading.
+    ensures no_file { (command : Command) → command_of (map string_bytes words.now) ≡ Some command
+        → ¬ ReadsFile command → source.new ≡ source.old }
+    ensures no_read_fault { (command : Command) → command_of (map string_bytes words.now) ≡ Some command
+        → ¬ ReadsFile command → result ≢ Status.ReadFault }
 
     // A fault comes only where the object's own count rose.
     ensures read_fault { result ≡ Status.ReadFault
@@ -62,8 +68,8 @@ pub fn run_calm<S: Source, K: Sink>(
     // A command that can work on the file is done, unless memory runs out or a fault is counted.
     ensures complete { (command : Command)
         → command_of (map string_bytes words.now) ≡ Some command →
-        IfSome (S.left source.old) (λ input.
-        IsOkAnd (family_of (need_of command) input) (Accepts command)
+        IfGiven command (S.left source.old) (λ given.
+        IsOkAnd given (Accepts command)
         → ¬ Rose (S.faults source.old) (S.faults source.new)
         → ¬ Rose (K.faults sink.old) (K.faults sink.new)
         → (result ≡ Status.Done) ⊎ (result ≡ Status.NoMemory)) }
@@ -72,7 +78,7 @@ pub fn run_calm<S: Source, K: Sink>(
         Ok(command) => command,
         Err(fault) => return Status::from(fault),
     };
-    let bytes = match read_input(alloc, source, MAX_FILE) {
+    let bytes = match input_of(alloc, command, source) {
         Ok(bytes) => bytes,
         Err(fault) => return Status::from(fault),
     };

@@ -29,12 +29,14 @@ pub enum Command {
     Cut(u16),
     /// The folded system.
     Fold,
+    /// The summary of the system that the drill's family of this number has.
+    Drill(u16),
 }
 
 /// Why the words are no command.
 #[derive(Clone, Copy, Debug, PartialEq, Eq)]
 pub enum WordsFault {
-    /// They are not in the table of words, or name a command that is not built yet.
+    /// They are not in the table of words.
     Usage,
     /// Memory ran out before they were read.
     NoMemory,
@@ -122,6 +124,7 @@ fn command_of_parts(
         ("meet", Some(number), None) => Some(Command::Meet(number_in(number)?)),
         ("cut", Some(number), None) => Some(Command::Cut(number_in(number)?)),
         ("fold", None, None) => Some(Command::Fold),
+        ("drill", Some(number), None) => Some(Command::Drill(number_in(number)?)),
         _ => None,
     }
 }

@@ -4,7 +4,7 @@ ghost use Rattle.std.specs.Io.KnownBytes.{Keeps};
 ghost use Rattle.ibp_outside.specs.Causes.{Rose};
 ghost use Rattle.family_file.specs.Family.{family_of};
 ghost use Rattle.relay_desk.specs.declared.limits.TheConstants.{WORKERS};
-ghost use Rattle.commands.specs.Causes.{need_of, Accepts, Tells, IsRefused, IsAnswered, IsReached, IsReadThrough};
+ghost use Rattle.commands.specs.Causes.{need_of, Accepts, IfGiven, IsAnswered, IsReached, IsReadThrough, IsRefused, ReadsFile, Tells};
 ghost use Rattle.commands.specs.declared.words.Command.{Command};
 ghost use Rattle.commands.specs.declared.words.Command.TheVariants as command;
 ghost use Rattle.top_call.specs.Words.{asked_of};
@@ -71,19 +71,23 @@ pub fn run_tool<R: Threads + Wait + Sync, S: Source, K: Sink, G: Gate>(
     ensures no_command { asked_of (map string_bytes words.now) ≡ None → (result ≡ Status.Usage) ⊎ (result ≡ Status.NoMemory) }
     ensures nothing_read { result ≡ Status.Usage → Keeps (S.left source.old) (S.left source.new) }
 
-    // What the status tells of the file, and what the sink took.
+    // What the status tells of the file, or of the drill's family, and what the sink took.
     ensures told { (command : Command) → asked_of (map string_bytes words.now) ≡ Some command →
-        IfSome (S.left source.old) (λ input. Tells command (family_of (need_of command) input) (K.taken sink.old) (K.taken sink.new) result) }
+        IfGiven command (S.left source.old) (λ given. Tells command given (K.taken sink.old) (K.taken sink.new) result) }
 
     // Where the file has a fault, or the command refuses its family, that is the answer.
     ensures refused { (command : Command) (status : Status) → asked_of (map string_bytes words.now) ≡ Some command →
-        IfSome (S.left source.old) (λ input. IsRefused command (family_of (need_of command) input) status → IsAnswered status result) }
+        IfGiven command (S.left source.old) (λ given. IsRefused command given status → IsAnswered status result) }
 
     // Only a run that is done, or that the sink stopped, writes.
     ensures nothing_written { result ≢ Status.Done → result ≢ Status.WriteFault → Keeps (K.taken sink.old) (K.taken sink.new) }
 
-    // Every other status comes after the source was read to its end, or past the limit.
-    ensures read_through { IsReached result → IsReadThrough (MAX_FILE + 1) (S.left source.old) (S.left source.new) }
+    // Every other status of a command that reads a file comes after the source was read to its end, or past the limit.
+    ensures read_through { (command : Command) → asked_of (map string_bytes words.now) ≡ Some command → ReadsFile command → IsReached result → IsReadThrough (MAX_FILE + 1) (S.left source.old) (S.left source.new) }
+
+    // No other command touches the source, so none has a fault of reading.
+    ensures no_file { (command : Command) → asked_of (map string_bytes words.now) ≡ Some command → ¬ ReadsFile command → source.new ≡ source.old }
+    ensures no_read_fault { (command : Command) → asked_of (map string_bytes words.now) ≡ Some command → ¬ ReadsFile command → result ≢ Status.ReadFault }
 
     // A fault comes only where the object's own count rose.
     ensures read_fault { result ≡ Status.ReadFault → Rose (S.faults source.old) (S.faults source.new) }
@@ -93,8 +97,8 @@ pub fn run_tool<R: Threads + Wait + Sync, S: Source, K: Sink, G: Gate>(
 
     // A command that can work on the file is done, unless memory runs out or a fault is counted.
     ensures complete { (command : Command) → asked_of (map string_bytes words.now) ≡ Some command →
-        IfSome (S.left source.old) (λ input.
-        IsOkAnd (family_of (need_of command) input) (Accepts command)
+        IfGiven command (S.left source.old) (λ given.
+        IsOkAnd given (Accepts command)
         → ¬ Rose (S.faults source.old) (S.faults source.new)
         → ¬ Rose (K.faults sink.old) (K.faults sink.new)
         → (result ≡ Status.Done) ⊎ (result ≡ Status.NoMemory)) }

@@ -2,7 +2,7 @@ use Rattle.std.proofs.Common.{◌∙◌, IsNone, refl, sym, subst, arith}
 use Rattle.family.specs.FamilyView.{family_view}
 use Rattle.neat_system.proofs.FewRelations.{few_relations}
 use Rattle.symmetry_fold.specs.Symmetries.{AreSymmetries}
-use Rattle.commands.proofs.OfFold.{refuses_fold, refuses_run}
+use Rattle.commands.proofs.OfFold.{refuses_run}
 use Rattle.commands.proofs.fold.folded_text.Goals as goal
 
 pub fold-requires : goal.fold-requires

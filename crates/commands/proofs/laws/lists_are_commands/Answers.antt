@@ -1,4 +1,4 @@
-use Rattle.commands.proofs.Lists.{identity_is, plain_is, basis_is, meet_is, cut_is, fold_is, reads_lists}
+use Rattle.commands.proofs.Lists.{identity_is, plain_is, basis_is, meet_is, cut_is, fold_is, drill_is, reads_lists}
 use Rattle.commands.proofs.laws.lists_are_commands.Goals as goal
 
 pub returns-clause-identity : goal.returns-clause-identity
@@ -18,6 +18,9 @@ returns-clause-cut c = cut_is
 
 pub returns-clause-fold : goal.returns-clause-fold
 returns-clause-fold c = fold_is
+
+pub returns-clause-drill : goal.returns-clause-drill
+returns-clause-drill c = drill_is
 
 pub returns-clause-every_list : goal.returns-clause-every_list
 returns-clause-every_list c = reads_lists
