@@ -13,12 +13,12 @@ use Rattle.clap.specs.Walk.{Text}
 use Rattle.family_file.specs.declared.limits.TheConstants.{DRILL_LIMIT, MAX_FILE}
 use Rattle.family_file.specs.Drill.{drill_data}
 use Rattle.family_file.specs.Family.{family_of}
-use Rattle.commands.specs.Causes.{given_of, need_of, IsReadThrough, IsWithinDrills, ReadsFile, Takes}
+use Rattle.commands.specs.Causes.{family_for, file_of, most_of, need_of, written_of, IsReadThrough, IsWithinDrills, ReadsFile, Takes}
 use Rattle.commands.specs.Input.{TakesFront}
 use Rattle.commands.specs.WordLists.{listed, without_mark}
 use Rattle.commands.specs.Words.{alone, command_of, is_number, number_in, with_number}
 use Rattle.commands.specs.declared.words.Command.{Command}
-use Rattle.commands.specs.declared.words.Command.TheVariants.{Identity, Basis, Plain, Meet, Cut, Fold, Drill}
+use Rattle.commands.specs.declared.words.Command.TheVariants.{Identity, Basis, Plain, Check, Meet, Cut, Fold, Drill}
 use Rattle.commands.proofs.Lists.{reads_lists}
 use Rattle.commands.proofs.Numbers.{digits_tested, numerals}
 use Rattle.commands.proofs.Told.{Keeps-same}
@@ -28,23 +28,36 @@ pub reads_file : (asked : Command) → ((number : ℕ) → asked ≡ Drill numbe
 reads_file (Drill number) other = absurd (other number refl)
 reads_file asked other = tt
 
-pub given_file : (asked : Command) (input : List ℕ) → ReadsFile asked → given_of asked input ≡ family_of (need_of asked) input
-given_file (Drill number) input reads = absurd reads
-given_file asked input reads = refl
+pub read_file : (asked : Command) (file : List ℕ) → ReadsFile asked → family_for asked file ≡ family_of (need_of asked) file
+read_file (Drill number) file reads = absurd reads
+read_file asked file reads = refl
 
-pub given_drill : (asked : Command) (number : ℕ) (input : List ℕ) → asked ≡ Drill number → given_of asked input ≡ Ok (drill_data number)
-given_drill asked number input is = ap (λ (c : Command). given_of c input) is
+pub given_drill : (asked : Command) (number : ℕ) (file : List ℕ) → asked ≡ Drill number → family_for asked file ≡ Ok (drill_data number)
+given_drill asked number file is = ap (λ (c : Command). family_for c file) is
 
 pub takes_none : (asked : Command) (number : ℕ) (left : Option (List ℕ)) (bytes : List ℕ) → asked ≡ Drill number → Takes asked left left bytes
 takes_none asked number left bytes is = subst (λ (c : Command). Takes c left left bytes) (sym is) (Keeps-same left)
 
-pub takes_file : (asked : Command) (before now : Option (List ℕ)) (bytes : List ℕ) → ReadsFile asked → TakesFront (MAX_FILE + 1) before now bytes → Takes asked before now bytes
-takes_file (Drill number) before now bytes reads taken = absurd reads
-takes_file asked before now bytes reads taken = taken
+pub takes_most : (asked : Command) (before now : Option (List ℕ)) (bytes : List ℕ) → ReadsFile asked → TakesFront (most_of asked) before now bytes → Takes asked before now bytes
+takes_most (Drill number) before now bytes reads taken = absurd reads
+takes_most asked before now bytes reads taken = taken
 
-pub taken_of_file : (asked : Command) (before now : Option (List ℕ)) (bytes : List ℕ) → ReadsFile asked → Takes asked before now bytes → TakesFront (MAX_FILE + 1) before now bytes
-taken_of_file (Drill number) before now bytes reads taken = absurd reads
-taken_of_file asked before now bytes reads taken = taken
+pub taken_most : (asked : Command) (before now : Option (List ℕ)) (bytes : List ℕ) → ReadsFile asked → Takes asked before now bytes → TakesFront (most_of asked) before now bytes
+taken_most (Drill number) before now bytes reads taken = absurd reads
+taken_most asked before now bytes reads taken = taken
+
+-- a command that isn't `check` has a file and no written text
+pub most_of_file : (asked : Command) → (asked ≡ Check → ⊥) → most_of asked ≡ MAX_FILE + 1
+most_of_file Check other = absurd (other refl)
+most_of_file asked other = refl
+
+pub file_alone : (asked : Command) (input : List ℕ) → (asked ≡ Check → ⊥) → file_of asked input ≡ input
+file_alone Check input other = absurd (other refl)
+file_alone asked input other = refl
+
+pub none_written : (asked : Command) (input : List ℕ) → (asked ≡ Check → ⊥) → written_of asked input ≡ []
+none_written Check input other = absurd (other refl)
+none_written asked input other = refl
 
 -- ---- the number of a drill that words name
 
@@ -84,7 +97,8 @@ alone_small : (word : Text) → Small (alone word)
 alone_small word =
     either_small (bytes_eq word (codes "identity")) (Some Identity) _ (one_small Identity tt)
     (either_small (bytes_eq word (codes "plain")) (Some Plain) _ (one_small Plain tt)
-    (either_small (bytes_eq word (codes "fold")) (Some Fold) None (one_small Fold tt) none_small))
+    (either_small (bytes_eq word (codes "check")) (Some Check) _ (one_small Check tt)
+    (either_small (bytes_eq word (codes "fold")) (Some Fold) None (one_small Fold tt) none_small)))
 
 numbered_small : (word number : Text) → Small (with_number word number)
 numbered_small word number =
@@ -105,14 +119,14 @@ within_drills words asked is = listed_small (without_mark words) asked (sym (rea
 
 -- ---- what is known of the words' command holds of each command that the words are
 
-front_through : (before now : Option (List ℕ)) (bytes : List ℕ) → TakesFront (MAX_FILE + 1) before now bytes → IsReadThrough (MAX_FILE + 1) before now
-front_through None now bytes taken = tt
-front_through (Some input) now bytes taken = taken.1
+front_through : (n : ℕ) (before now : Option (List ℕ)) (bytes : List ℕ) → TakesFront n before now bytes → IsReadThrough n before now
+front_through n None now bytes taken = tt
+front_through n (Some input) now bytes taken = taken.1
 
 pub through : (found : Option Command) (asked : Command) (before now : Option (List ℕ)) (bytes : List ℕ) → found ≡ Some asked → Takes asked before now bytes
-    → (command : Command) → found ≡ Some command → ReadsFile command → IsReadThrough (MAX_FILE + 1) before now
+    → (command : Command) → found ≡ Some command → ReadsFile command → IsReadThrough (most_of command) before now
 through found asked before now bytes is taken command also reads =
-    front_through before now bytes (taken_of_file command before now bytes reads (subst (λ (c : Command). Takes c before now bytes) (same_Some asked command (sym is ∙ also)) taken))
+    front_through (most_of command) before now bytes (taken_most command before now bytes reads (subst (λ (c : Command). Takes c before now bytes) (same_Some asked command (sym is ∙ also)) taken))
 
 pub unread : (found : Option Command) (asked : Command) (kept : Type 0) → found ≡ Some asked → ((ReadsFile asked → ⊥) → kept)
     → (command : Command) → found ≡ Some command → (ReadsFile command → ⊥) → kept

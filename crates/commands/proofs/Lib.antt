@@ -8,6 +8,8 @@ pub mod OfMeet
 pub mod MeetBlocks
 pub mod OfCut
 pub mod OfFold
+pub mod OfCheck
+pub mod CheckParts
 pub mod Commands
 pub mod Told
 pub mod Exact

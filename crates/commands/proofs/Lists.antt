@@ -10,7 +10,7 @@ use Rattle.clap.proofs.OnLiterals.{clap_on_literals}
 use Rattle.commands.specs.Words.{alone, with_number, command_of, is_number, number_in}
 use Rattle.commands.specs.WordLists.{listed, without_mark}
 use Rattle.commands.specs.declared.words.Command.{Command}
-use Rattle.commands.specs.declared.words.Command.TheVariants.{Identity, Basis, Plain, Meet, Cut, Fold, Drill}
+use Rattle.commands.specs.declared.words.Command.TheVariants.{Identity, Basis, Plain, Check, Meet, Cut, Fold, Drill}
 use Rattle.commands.proofs.Walks.{rules, at, comes, blocked, passed, from_start, cond_same}
 use Rattle.commands.proofs.WordSorts.{mark, Sort, Starts, IsPlain, is_mark, is_plain, is_unknown, is_workers, sort_of}
 use Rattle.commands.proofs.WorkersWalks.{unknown_comes, workers_come}
@@ -173,6 +173,9 @@ identity_is = reads_lists (codes "identity" ∷ [])
 
 pub plain_is : command_of (codes "plain" ∷ []) ≡ Some Plain
 plain_is = reads_lists (codes "plain" ∷ [])
+
+pub check_is : command_of (codes "check" ∷ []) ≡ Some Check
+check_is = reads_lists (codes "check" ∷ [])
 
 pub fold_is : command_of (codes "fold" ∷ []) ≡ Some Fold
 fold_is = reads_lists (codes "fold" ∷ [])

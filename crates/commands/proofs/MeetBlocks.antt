@@ -77,5 +77,6 @@ answers_meet family number tangent is_tangent sectors are (Err (refusal.File fau
 answers_meet family number tangent is_tangent sectors are (Err (refusal.NotDivisible i)) blocks met refused = absurd refused
 answers_meet family number tangent is_tangent sectors are (Err refusal.NotTangent) blocks met refused = absurd refused
 answers_meet family number tangent is_tangent sectors are (Err (refusal.Cut fault)) blocks met refused = absurd refused
+answers_meet family number tangent is_tangent sectors are (Err (refusal.CheckedNo fault)) blocks met refused = absurd refused
 answers_meet family number tangent is_tangent sectors are (Err (refusal.NotSymmetric k)) blocks met refused = absurd refused
 answers_meet family number tangent is_tangent sectors are (Err (refusal.CandidatesOver sector)) blocks met refused = absurd refused

@@ -20,7 +20,7 @@ use Rattle.commands.specs.Answers.{IsAnswer}
 use Rattle.commands.specs.Cut.{HasCutSystem, IsCutFault, IsCutOf, IsCutText, RefusesCut}
 use Rattle.commands.specs.Refusals.{of_lifted_fault}
 use Rattle.commands.specs.declared.status.Status.{Status}
-use Rattle.commands.specs.declared.status.Status.TheVariants.{Done, Usage, ReadFault, File, NotDivisible, NotTangent, PairsSpent, DegreeOver, CandidatesOver, WriteFault, NoMemory, Cut, NotSymmetric}
+use Rattle.commands.specs.declared.status.Status.TheVariants.{Done, Usage, ReadFault, File, NotDivisible, NotTangent, PairsSpent, DegreeOver, CandidatesOver, WriteFault, NoMemory, CheckedNo, Cut, NotSymmetric}
 use Rattle.commands.proofs.OfPlain.{same_sector}
 
 within_cut : (family cut : FamilyData) (number : ℕ) → DataWithin family → IsCutOf family number cut → DataWithin cut
@@ -55,6 +55,7 @@ cut_not_refused family number ReadFault within met refused = refused
 cut_not_refused family number (File fault) within met refused = refused
 cut_not_refused family number (NotDivisible i) within met refused = refused
 cut_not_refused family number NotTangent within met refused = refused
+cut_not_refused family number (CheckedNo reason) within met refused = refused
 cut_not_refused family number (NotSymmetric k) within met refused = refused
 cut_not_refused family number (Cut fault) within met refused = let none = met.is_cut.no_fault in cc
 cut_not_refused family number (PairsSpent sector) within met refused = system_or_fault family number sector outcome.PairsSpent within met refused
@@ -70,6 +71,7 @@ once_cut family number fault ReadFault one refused = absurd refused
 once_cut family number fault (File other) one refused = absurd refused
 once_cut family number fault (NotDivisible i) one refused = absurd refused
 once_cut family number fault NotTangent one refused = absurd refused
+once_cut family number fault (CheckedNo reason) one refused = absurd refused
 once_cut family number fault (NotSymmetric k) one refused = absurd refused
 once_cut family number fault (Cut other) one refused = ap Cut (same_Some fault other (sym one ∙ refused))
 once_cut family number fault (PairsSpent sector) one refused = absurd (cut_or_not family number fault sector outcome.PairsSpent one refused)
@@ -85,6 +87,7 @@ once_spent family number sector ReadFault within one refused = absurd refused
 once_spent family number sector (File fault) within one refused = absurd refused
 once_spent family number sector (NotDivisible i) within one refused = absurd refused
 once_spent family number sector NotTangent within one refused = absurd refused
+once_spent family number sector (CheckedNo reason) within one refused = absurd refused
 once_spent family number sector (NotSymmetric k) within one refused = absurd refused
 once_spent family number sector (Cut fault) within one refused = absurd (cut_or_not family number fault sector outcome.PairsSpent refused one)
 once_spent family number sector (PairsSpent other) within one refused = ap PairsSpent (one_cut_fault family number sector other outcome.PairsSpent outcome.PairsSpent within one refused).0
@@ -100,6 +103,7 @@ once_over family number sector ReadFault within one refused = absurd refused
 once_over family number sector (File fault) within one refused = absurd refused
 once_over family number sector (NotDivisible i) within one refused = absurd refused
 once_over family number sector NotTangent within one refused = absurd refused
+once_over family number sector (CheckedNo reason) within one refused = absurd refused
 once_over family number sector (NotSymmetric k) within one refused = absurd refused
 once_over family number sector (Cut fault) within one refused = absurd (cut_or_not family number fault sector outcome.DegreeOver refused one)
 once_over family number sector (PairsSpent other) within one refused = absurd (let same = (one_cut_fault family number sector other outcome.DegreeOver outcome.PairsSpent within one refused).1 in cc)
@@ -115,6 +119,7 @@ once_many family number sector ReadFault within one refused = absurd refused
 once_many family number sector (File fault) within one refused = absurd refused
 once_many family number sector (NotDivisible i) within one refused = absurd refused
 once_many family number sector NotTangent within one refused = absurd refused
+once_many family number sector (CheckedNo reason) within one refused = absurd refused
 once_many family number sector (NotSymmetric k) within one refused = absurd refused
 once_many family number sector (Cut fault) within one refused = absurd (cut_or_not family number fault sector outcome.CandidatesOver refused one)
 once_many family number sector (PairsSpent other) within one refused = absurd (let same = (one_cut_fault family number sector other outcome.CandidatesOver outcome.PairsSpent within one refused).1 in cc)
@@ -130,6 +135,7 @@ cut_once family number ReadFault second within refused also = absurd refused
 cut_once family number (File fault) second within refused also = absurd refused
 cut_once family number (NotDivisible i) second within refused also = absurd refused
 cut_once family number NotTangent second within refused also = absurd refused
+cut_once family number (CheckedNo reason) second within refused also = absurd refused
 cut_once family number (NotSymmetric k) second within refused also = absurd refused
 cut_once family number (Cut fault) second within refused also = once_cut family number fault second refused also
 cut_once family number (PairsSpent sector) second within refused also = once_spent family number sector second within refused also

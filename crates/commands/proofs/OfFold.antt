@@ -17,7 +17,7 @@ use Rattle.commands.specs.Answers.{IsAnswer}
 use Rattle.commands.specs.Fold.{HasFold, IsFoldFault, IsFoldText, RefusesFold}
 use Rattle.commands.specs.Refusals.{of_fold_fault, of_system_fault}
 use Rattle.commands.specs.declared.status.Status.{Status}
-use Rattle.commands.specs.declared.status.Status.TheVariants.{Done, Usage, ReadFault, File, NotDivisible, NotTangent, PairsSpent, DegreeOver, CandidatesOver, WriteFault, NoMemory, Cut, NotSymmetric}
+use Rattle.commands.specs.declared.status.Status.TheVariants.{Done, Usage, ReadFault, File, NotDivisible, NotTangent, PairsSpent, DegreeOver, CandidatesOver, WriteFault, NoMemory, CheckedNo, Cut, NotSymmetric}
 use Rattle.commands.proofs.OfPlain.{same_sector}
 
 pub fold_not_refused : (family : FamilyData) (status : Status) → DataWithin family → HasFold family → RefusesFold family status → ⊥
@@ -27,6 +27,7 @@ fold_not_refused family ReadFault within met refused = refused
 fold_not_refused family (File fault) within met refused = refused
 fold_not_refused family (NotDivisible i) within met refused = refused
 fold_not_refused family NotTangent within met refused = refused
+fold_not_refused family (CheckedNo fault) within met refused = refused
 fold_not_refused family (Cut fault) within met refused = refused
 fold_not_refused family (NotSymmetric k) within met refused = never_broken family k met.symmetric refused
 fold_not_refused family (PairsSpent sector) within met refused = never_both family within met.system sector.0 outcome.PairsSpent refused.fault met.is_system
@@ -42,6 +43,7 @@ once_spent family sector ReadFault within one refused = absurd refused
 once_spent family sector (File fault) within one refused = absurd refused
 once_spent family sector (NotDivisible i) within one refused = absurd refused
 once_spent family sector NotTangent within one refused = absurd refused
+once_spent family sector (CheckedNo fault) within one refused = absurd refused
 once_spent family sector (Cut fault) within one refused = absurd refused
 once_spent family sector (NotSymmetric k) within one refused = absurd (never_broken family k one.symmetric refused)
 once_spent family sector (PairsSpent other) within one refused = ap PairsSpent (same_sector sector other (one_fault family within sector.0 other.0 outcome.PairsSpent outcome.PairsSpent one.fault refused.fault).0)
@@ -57,6 +59,7 @@ once_over family sector ReadFault within one refused = absurd refused
 once_over family sector (File fault) within one refused = absurd refused
 once_over family sector (NotDivisible i) within one refused = absurd refused
 once_over family sector NotTangent within one refused = absurd refused
+once_over family sector (CheckedNo fault) within one refused = absurd refused
 once_over family sector (Cut fault) within one refused = absurd refused
 once_over family sector (NotSymmetric k) within one refused = absurd (never_broken family k one.symmetric refused)
 once_over family sector (PairsSpent other) within one refused = absurd (let same = (one_fault family within sector.0 other.0 outcome.DegreeOver outcome.PairsSpent one.fault refused.fault).1 in cc)
@@ -72,6 +75,7 @@ once_many family sector ReadFault within one refused = absurd refused
 once_many family sector (File fault) within one refused = absurd refused
 once_many family sector (NotDivisible i) within one refused = absurd refused
 once_many family sector NotTangent within one refused = absurd refused
+once_many family sector (CheckedNo fault) within one refused = absurd refused
 once_many family sector (Cut fault) within one refused = absurd refused
 once_many family sector (NotSymmetric k) within one refused = absurd (never_broken family k one.symmetric refused)
 once_many family sector (PairsSpent other) within one refused = absurd (let same = (one_fault family within sector.0 other.0 outcome.CandidatesOver outcome.PairsSpent one.fault refused.fault).1 in cc)
@@ -87,6 +91,7 @@ once_broken family k ReadFault one refused = absurd refused
 once_broken family k (File fault) one refused = absurd refused
 once_broken family k (NotDivisible i) one refused = absurd refused
 once_broken family k NotTangent one refused = absurd refused
+once_broken family k (CheckedNo fault) one refused = absurd refused
 once_broken family k (Cut fault) one refused = absurd refused
 once_broken family k (NotSymmetric other) one refused = ap NotSymmetric (one_broken family k other one refused)
 once_broken family k (PairsSpent sector) one refused = absurd (never_broken family k refused.symmetric one)
@@ -102,6 +107,7 @@ fold_once family ReadFault second within refused also = absurd refused
 fold_once family (File fault) second within refused also = absurd refused
 fold_once family (NotDivisible i) second within refused also = absurd refused
 fold_once family NotTangent second within refused also = absurd refused
+fold_once family (CheckedNo fault) second within refused also = absurd refused
 fold_once family (Cut fault) second within refused also = absurd refused
 fold_once family (NotSymmetric k) second within refused also = once_broken family k second refused also
 fold_once family (PairsSpent sector) second within refused also = once_spent family sector second within refused also

@@ -22,7 +22,7 @@ use Rattle.system_text.specs.declared.value.SectorBlock.{SectorBlock}
 use Rattle.system_text.specs.Systems.{block_text}
 use Rattle.commands.specs.Meet.{TangentEndsSo, IsTangentOf, AreMeetSectors, MeetEndsSo, IsMet, HasMeet, IsBlockOf, IsMeetText, StopsAt, IsFirstStop, StopsSo, RefusesMeet}
 use Rattle.commands.specs.declared.status.Status.{Status}
-use Rattle.commands.specs.declared.status.Status.TheVariants.{Done, Usage, ReadFault, File, NotDivisible, NotTangent, PairsSpent, DegreeOver, CandidatesOver, WriteFault, NoMemory, Cut, NotSymmetric}
+use Rattle.commands.specs.declared.status.Status.TheVariants.{Done, Usage, ReadFault, File, NotDivisible, NotTangent, PairsSpent, DegreeOver, CandidatesOver, WriteFault, NoMemory, CheckedNo, Cut, NotSymmetric}
 use Rattle.commands.proofs.OfPlain.{same_sector}
 
 -- ---- one tangent module, one list of sectors, one end of each run
@@ -128,6 +128,7 @@ meet_not_refused family number (File fault) within met refused = refused
 meet_not_refused family number (NotDivisible i) within met refused = refused
 meet_not_refused family number NotTangent within met refused = refused
 meet_not_refused family number (Cut fault) within met refused = refused
+meet_not_refused family number (CheckedNo fault) within met refused = refused
 meet_not_refused family number (NotSymmetric k) within met refused = refused
 meet_not_refused family number (PairsSpent sector) within met refused = not_stopped family number sector run.PairsSpent within tt met refused
 meet_not_refused family number (DegreeOver sector) within met refused = not_stopped family number sector run.DegreeOver within tt met refused
@@ -157,6 +158,7 @@ stop_of family number (File fault) refused = absurd refused
 stop_of family number (NotDivisible i) refused = absurd refused
 stop_of family number NotTangent refused = absurd refused
 stop_of family number (Cut fault) refused = absurd refused
+stop_of family number (CheckedNo fault) refused = absurd refused
 stop_of family number (NotSymmetric k) refused = absurd refused
 stop_of family number (PairsSpent sector) refused = record { sector = sector; end = run.PairsSpent; stops = tt; so = refused; is = refl }
 stop_of family number (DegreeOver sector) refused = record { sector = sector; end = run.DegreeOver; stops = tt; so = refused; is = refl }

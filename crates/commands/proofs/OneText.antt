@@ -24,32 +24,33 @@ use Rattle.commands.proofs.Probes.{same_probe}
 use Rattle.commands.proofs.Told.{given_within}
 
 pub one_text : OneText
-one_text command.Identity input family text other small is first second =
-    let limits = given_within command.Identity small input family is in
+one_text command.Identity input given text other small is first second =
+    let limits = given_within command.Identity small input given is in
     let probe = first.is_row.probe in
-    let moved : IsIdentityRow family.n family.gamma family.baikov probe.field.a probe.seed (is_zero_integral family.zero) second.row =
-    subst (λ (p : Probe). IsIdentityRow family.n family.gamma family.baikov p.field.a p.seed (is_zero_integral family.zero) second.row) (same_probe family second.is_row.probe probe second.is_row.given first.is_row.given) second.is_row.identity in
+    let moved : IsIdentityRow given.family.n given.family.gamma given.family.baikov probe.field.a probe.seed (is_zero_integral given.family.zero) second.row =
+    subst (λ (p : Probe). IsIdentityRow given.family.n given.family.gamma given.family.baikov p.field.a p.seed (is_zero_integral given.family.zero) second.row) (same_probe given.family second.is_row.probe probe second.is_row.given first.is_row.given) second.is_row.identity in
     let rows : first.row ≡ second.row =
-    one_row family.n DEGREE_LIMIT family.gamma family.baikov probe.field.a probe.seed (is_zero_integral family.zero) first.row second.row
+    one_row given.family.n DEGREE_LIMIT given.family.gamma given.family.baikov probe.field.a probe.seed (is_zero_integral given.family.zero) first.row second.row
     limits.few_variables limits.polynomial limits.not_zero first.is_row.canonical second.is_row.canonical first.is_row.identity moved in
     first.line ∙ ap row_line rows ∙ sym second.line
-one_text (command.Basis number) input family text other small is first second =
-    let limits = given_within (command.Basis number) small input family is in
-    let same : first.fields ≡ second.fields = one_basis family.baikov family.n number limits.few_variables limits.polynomial.variables first.fields second.fields first.basis second.basis in
+one_text (command.Basis number) input given text other small is first second =
+    let limits = given_within (command.Basis number) small input given is in
+    let same : first.fields ≡ second.fields = one_basis given.family.baikov given.family.n number limits.few_variables limits.polynomial.variables first.fields second.fields first.basis second.basis in
     let block : List StrippedField → SectorBlock = λ fields. record { sector = record { 0 = number }; fields = fields } in
     first.block ∙ ap (λ fields. block_text (block fields)) same ∙ sym second.block
-one_text command.Plain input family text other small is first second =
-    let limits = given_within command.Plain small input family is in
-    first.is ∙ ap system_text (one_system family limits first.of.system second.of.system first.of.is_system second.of.is_system) ∙ sym second.is
-one_text (command.Meet number) input family text other small is first second = one_meet_text family number text other (given_within (command.Meet number) small input family is) first second
-one_text (command.Cut number) input family text other small is first second =
-    let limits = given_within (command.Cut number) small input family is in
-    first.is ∙ ap (λ (s : System). system_text (lifted_system family.n number s)) (one_cut_system family number limits first.of second.of) ∙ sym second.is
-one_text command.Fold input family text other small is first second =
-    let limits = given_within command.Fold small input family is in
-    let same : second.of.system ≡ first.of.system = one_system family limits second.of.system first.of.system second.of.is_system first.of.is_system in
-    let moved : IsFolded family first.of.system second.folded = subst (λ (s : System). IsFolded family s second.folded) same second.is_folded in
-    first.is ∙ ap fold_text (one_fold family first.of.system first.folded second.folded first.is_folded moved) ∙ sym second.is
-one_text (command.Drill number) input family text other small is first second =
-    let limits = given_within (command.Drill number) small input family is in
-    first.is ∙ ap (summary_text number) (one_system family limits first.of.system second.of.system first.of.is_system second.of.is_system) ∙ sym second.is
+one_text command.Plain input given text other small is first second =
+    let limits = given_within command.Plain small input given is in
+    first.is ∙ ap system_text (one_system given.family limits first.of.system second.of.system first.of.is_system second.of.is_system) ∙ sym second.is
+one_text command.Check input given text other small is first second = first.is ∙ sym second.is
+one_text (command.Meet number) input given text other small is first second = one_meet_text given.family number text other (given_within (command.Meet number) small input given is) first second
+one_text (command.Cut number) input given text other small is first second =
+    let limits = given_within (command.Cut number) small input given is in
+    first.is ∙ ap (λ (s : System). system_text (lifted_system given.family.n number s)) (one_cut_system given.family number limits first.of second.of) ∙ sym second.is
+one_text command.Fold input given text other small is first second =
+    let limits = given_within command.Fold small input given is in
+    let same : second.of.system ≡ first.of.system = one_system given.family limits second.of.system first.of.system second.of.is_system first.of.is_system in
+    let moved : IsFolded given.family first.of.system second.folded = subst (λ (s : System). IsFolded given.family s second.folded) same second.is_folded in
+    first.is ∙ ap fold_text (one_fold given.family first.of.system first.folded second.folded first.is_folded moved) ∙ sym second.is
+one_text (command.Drill number) input given text other small is first second =
+    let limits = given_within (command.Drill number) small input given is in
+    first.is ∙ ap (summary_text number) (one_system given.family limits first.of.system second.of.system first.of.is_system second.of.is_system) ∙ sym second.is

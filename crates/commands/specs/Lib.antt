@@ -1,3 +1,5 @@
+pub use Rattle.family.specs.FamilyView
+pub use Rattle.family_file.specs.Family
 pub mod Input
 pub mod Output
 pub mod Program
@@ -10,6 +12,8 @@ pub mod Answers
 pub mod Identity
 pub mod Basis
 pub mod Plain
+pub mod CheckInput
+pub mod Check
 pub mod Meet
 pub mod Cut
 pub mod Fold

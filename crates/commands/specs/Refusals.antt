@@ -1,4 +1,4 @@
--- The refusal that a fault of the file, of its probe, of a sector's run, of a family without a system, of a cut or of a fold is.
+-- The refusal that a fault of the file, of its probe, of a sector's run, of a family without a system, of a written text, of a cut or of a fold is.
 use Rattle.std.specs.Prelude.{ℕ}
 use Rattle.family_file.specs.declared.fault.FamilyFault.{FamilyFault}
 use Rattle.family_file.specs.declared.fault.FamilyFault.TheVariants as file
@@ -12,10 +12,12 @@ use Rattle.sector_lattice.specs.declared.sector.Sector.{Sector}
 use Rattle.cut_family.specs.Lifting.{lifted_sector}
 use Rattle.cut_family.specs.declared.fault.CutAnswer.{CutAnswer}
 use Rattle.cut_family.specs.declared.fault.CutAnswer.TheVariants as cut
+use Rattle.system_check.specs.declared.fault.CheckAnswer.{CheckAnswer}
+use Rattle.system_check.specs.declared.fault.CheckAnswer.TheVariants as check
 use Rattle.symmetry_fold.specs.declared.fault.FoldFault.{FoldFault}
 use Rattle.symmetry_fold.specs.declared.fault.FoldFault.TheVariants as fold
 use Rattle.commands.specs.declared.refusal.Refusal.{Refusal}
-use Rattle.commands.specs.declared.refusal.Refusal.TheVariants.{File, NotDivisible, NotTangent, Cut, NotSymmetric, PairsSpent, DegreeOver, CandidatesOver, NoMemory}
+use Rattle.commands.specs.declared.refusal.Refusal.TheVariants.{File, NotDivisible, NotTangent, CheckedNo, Cut, NotSymmetric, PairsSpent, DegreeOver, CandidatesOver, NoMemory}
 
 abbrev pub of_family_fault : FamilyFault → Refusal
 of_family_fault (file.File fault) = File fault
@@ -36,6 +38,10 @@ of_system_fault (system.PairsSpent sector) = PairsSpent sector
 of_system_fault (system.DegreeOver sector) = DegreeOver sector
 of_system_fault (system.CandidatesOver sector) = CandidatesOver sector
 of_system_fault system.NoMemory = NoMemory
+
+abbrev pub of_check_answer : CheckAnswer → Refusal
+of_check_answer (check.No fault) = CheckedNo fault
+of_check_answer check.NoMemory = NoMemory
 
 abbrev pub of_cut_answer : CutAnswer → Refusal
 of_cut_answer (cut.No fault) = Cut fault

@@ -6,7 +6,7 @@ use Rattle.commands.specs.declared.input.InputFault.TheVariants as input
 use Rattle.commands.specs.declared.refusal.Refusal.{Refusal}
 use Rattle.commands.specs.declared.refusal.Refusal.TheVariants as refusal
 use Rattle.commands.specs.declared.status.Status.{Status}
-use Rattle.commands.specs.declared.status.Status.TheVariants.{Usage, ReadFault, File, NotDivisible, NotTangent, Cut, NotSymmetric, PairsSpent, DegreeOver, CandidatesOver, NoMemory}
+use Rattle.commands.specs.declared.status.Status.TheVariants.{Usage, ReadFault, File, NotDivisible, NotTangent, CheckedNo, Cut, NotSymmetric, PairsSpent, DegreeOver, CandidatesOver, NoMemory}
 
 abbrev pub words_status : WordsFault → Status
 words_status words.Usage = Usage
@@ -20,6 +20,7 @@ abbrev pub status_of : Refusal → Status
 status_of (refusal.File fault) = File fault
 status_of (refusal.NotDivisible i) = NotDivisible i
 status_of refusal.NotTangent = NotTangent
+status_of (refusal.CheckedNo fault) = CheckedNo fault
 status_of (refusal.Cut fault) = Cut fault
 status_of (refusal.NotSymmetric k) = NotSymmetric k
 status_of (refusal.PairsSpent sector) = PairsSpent sector

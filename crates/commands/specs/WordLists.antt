@@ -1,6 +1,7 @@
 -- Which lists of words are commands.
 --     identity    Identity
 --     plain       Plain
+--     check       Check
 --     basis N     Basis of N's value, where N is one to four digits
 --     meet N      Meet of N's value, likewise
 --     cut N       Cut of N's value, likewise

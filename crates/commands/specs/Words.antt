@@ -3,6 +3,7 @@
 --     identity  absent                 absent
 --     basis     one to four digits     absent
 --     plain     absent                 absent
+--     check     absent                 absent
 --     meet      one to four digits     absent
 --     cut       one to four digits     absent
 --     fold      absent                 absent
@@ -15,7 +16,7 @@ use Rattle.std.specs.Str.Parse.{digits_value}
 use Rattle.clap.specs.Walk.{Row, Text, first_of}
 use Rattle.commands.specs.Program.{rows_found}
 use Rattle.commands.specs.declared.words.Command.{Command}
-use Rattle.commands.specs.declared.words.Command.TheVariants.{Identity, Basis, Plain, Meet, Cut, Fold, Drill}
+use Rattle.commands.specs.declared.words.Command.TheVariants.{Identity, Basis, Plain, Check, Meet, Cut, Fold, Drill}
 
 -- one to four digits
 abbrev pub is_number : Text → Bool
@@ -28,6 +29,7 @@ abbrev pub alone : Text → Option Command
 alone word =
     if bytes_eq word (codes "identity") then Some Identity
     else if bytes_eq word (codes "plain") then Some Plain
+    else if bytes_eq word (codes "check") then Some Check
     else if bytes_eq word (codes "fold") then Some Fold
     else None
 

@@ -1,11 +1,13 @@
-//! What a command writes of a file, and a drill of its number.
+//! What a command writes of its input, and a drill of its number.
 
-ghost use Rattle.std.specs.Prelude.{◌≡◌};
+ghost use Rattle.std.specs.Prelude.{◌≡◌, ◌≤◌, length};
 ghost use Rattle.family.specs.FamilyView.{family_view};
 ghost use Rattle.family_file.specs.Reading.{Gives};
-ghost use Rattle.commands.specs.Causes.{given_of, need_of, Answers, IsWithinDrills};
+ghost use Rattle.commands.specs.Causes.{family_for, file_of, given_of, most_of, need_of, written_of, Answers, AnswersFor, HasFile, IsWithinDrills};
 
 use crate::basis::basis_text;
+use crate::check::check_text;
+use crate::check_input::parts_of;
 use crate::cut::cut_text;
 use crate::drill::summary_text;
 use crate::fold::folded_text;
@@ -26,6 +28,7 @@ fn need_of(command: Command) -> Need
         Command::Identity => Need::Probe,
         Command::Basis(number) => Need::Sector(u32::from(number)),
         Command::Plain => Need::Family,
+        Command::Check => Need::Family,
         Command::Meet(number) => Need::Sector(u32::from(number)),
         Command::Cut(number) => Need::Sector(u32::from(number)),
         Command::Fold => Need::Family,
@@ -33,32 +36,60 @@ fn need_of(command: Command) -> Need
     }
 }
 
-// The family that a command is given: a drill its own, and each other that of the file.
-fn given(alloc: Global, command: Command, bytes: &[u8]) -> Result<Family, FamilyFault>
-    requires { IsWithinDrills command }
-    ensures { Gives family_view result (given_of command bytes.now) }
+// The file in the input of a command, and the written text behind it, which `check` alone has.
+fn parts_for(command: Command, input: &[u8]) -> (&[u8], &[u8])
+    requires { length input.now ≤ most_of command }
+    ensures file { result.0.now ≡ file_of command input.now }
+    ensures written { result.1.now ≡ written_of command input.now }
 {
     match command {
-        Command::Drill(number) => Ok(drill_family(alloc, u32::from(number))?),
-        _ => read_family(alloc, bytes, need_of(command)),
+        Command::Check => parts_of(input),
+        _ => (input, &[]),
     }
 }
 
-/// The text that a command writes of a file: a row on a line, the block of a sector, or a system; for a drill the summary
-/// of the system of its family, whatever the bytes are. It is made whole, so that a refusal comes before the first byte
-/// is written.
-pub fn text_of(alloc: Global, command: Command, bytes: &[u8]) -> Result<Vec<u8>, Refusal>
+// The family of the file, or of a drill, whatever the file.
+fn family_for(alloc: Global, command: Command, file: &[u8]) -> Result<Family, FamilyFault>
     requires { IsWithinDrills command }
-    ensures { Answers command (given_of command bytes.now) result }
+    ensures { Gives family_view result (family_for command file.now) }
 {
-    let family = given(alloc, command, bytes)?;
     match command {
-        Command::Identity => identity_text(alloc, &family),
-        Command::Basis(number) => basis_text(alloc, &family, number),
-        Command::Plain => plain_text(alloc, &family),
-        Command::Meet(number) => meet_text(alloc, &family, number),
-        Command::Cut(number) => cut_text(alloc, &family, number),
-        Command::Fold => folded_text(alloc, &family),
-        Command::Drill(number) => summary_text(alloc, &family, number),
+        Command::Drill(number) => Ok(drill_family(alloc, u32::from(number))?),
+        _ => read_family(alloc, file, need_of(command)),
     }
+}
+
+// The text that a command writes of a family, and of a written text.
+fn text_for(
+    alloc: Global,
+    command: Command,
+    family: &Family,
+    written: &[u8],
+) -> Result<Vec<u8>, Refusal>
+    requires { HasFile command (family_view family.now) }
+    ensures { AnswersFor command (record { family = family_view family.now; written = written.now }) result }
+{
+    match command {
+        Command::Identity => identity_text(alloc, family),
+        Command::Basis(number) => basis_text(alloc, family, number),
+        Command::Plain => plain_text(alloc, family),
+        Command::Check => check_text(alloc, family, written),
+        Command::Meet(number) => meet_text(alloc, family, number),
+        Command::Cut(number) => cut_text(alloc, family, number),
+        Command::Fold => folded_text(alloc, family),
+        Command::Drill(number) => summary_text(alloc, family, number),
+    }
+}
+
+/// The text that a command writes of its input: a row on a line, the block of a sector, a system, or that a text is right;
+/// for a drill the summary of the system of its family, whatever the bytes are. It is made whole, so that a refusal comes
+/// before the first byte is written.
+pub fn text_of(alloc: Global, command: Command, input: &[u8]) -> Result<Vec<u8>, Refusal>
+    requires number { IsWithinDrills command }
+    requires few { length input.now ≤ most_of command }
+    ensures { Answers command (given_of command input.now) result }
+{
+    let (file, written) = parts_for(command, input);
+    let family = family_for(alloc, command, file)?;
+    text_for(alloc, command, &family, written)
 }

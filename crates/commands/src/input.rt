@@ -2,7 +2,7 @@
 
 ghost use Rattle.std.specs.Prelude.{◌≡◌, ◌+◌, ◌^◌, ◌<◌, ◌≤◌, vec_len, IfOk, IsOk, IsErrOf};
 ghost use Rattle.ibp_outside.specs.Causes.{Rose};
-ghost use Rattle.commands.specs.Causes.{ReadsFile, Takes};
+ghost use Rattle.commands.specs.Causes.{most_of, ReadsFile, Takes};
 ghost use Rattle.commands.specs.Input.{TakesFront};
 ghost use Rattle.commands.specs.declared.input.InputFault.TheVariants.{Failed as ReadFailed, NoMemory};
 
@@ -10,6 +10,7 @@ use crate::words::Command;
 use family_file::MAX_FILE;
 use ibp_outside::{Failed, Source};
 use std::alloc::{AllocError, Global};
+use system_check::TEXT_LIMIT;
 
 /// Why the bytes of a source could not be read.
 #[derive(Clone, Copy, Debug, PartialEq, Eq)]
@@ -63,14 +64,15 @@ pub fn read_input<S: Source>(
     Ok(bytes)
 }
 
-/// What a command takes of a source: the bytes to its end, or one more than a file may have; nothing for a drill, which
-/// leaves the source as it was.
+/// What a command takes of a source: the bytes to its end, or one more than a file may have, and for `check` one more than
+/// a file and a text may have; nothing for a drill, which leaves the source as it was.
 pub fn input_of<S: Source>(
     alloc: Global,
     command: Command,
     source: &mut S,
 ) -> Result<Vec<u8>, InputFault>
     ensures bytes { IfOk result (λ v. Takes command (S.left source.old) (S.left source.new) v.items) }
+    ensures few { IfOk result (λ v. vec_len v ≤ most_of command) }
     ensures given { ¬ ReadsFile command → IsOk result }
     ensures untouched { ¬ ReadsFile command → source.new ≡ source.old }
     ensures failed { IsErrOf result InputFault.Failed
@@ -79,6 +81,7 @@ pub fn input_of<S: Source>(
 {
     match command {
         Command::Drill(_) => Ok(Vec::new(alloc)),
+        Command::Check => read_input(alloc, source, MAX_FILE + TEXT_LIMIT),
         _ => read_input(alloc, source, MAX_FILE),
     }
 }

@@ -18,6 +18,7 @@ pub fn lists_are_commands()
         → command_of (codes "meet" ∷ number ∷ []) ≡ Some (command.Meet (digits_value 10 number)) }
     ensures cut { (number : List ℕ) → is_number number ≡ true
         → command_of (codes "cut" ∷ number ∷ []) ≡ Some (command.Cut (digits_value 10 number)) }
+    ensures check { command_of (codes "check" ∷ []) ≡ Some command.Check }
     ensures fold { command_of (codes "fold" ∷ []) ≡ Some command.Fold }
     ensures drill { (number : List ℕ) → is_number number ≡ true
         → command_of (codes "drill" ∷ number ∷ []) ≡ Some (command.Drill (digits_value 10 number)) }

@@ -4,6 +4,8 @@
 
 mod answer;
 mod basis;
+mod check;
+mod check_input;
 mod cut;
 mod drill;
 mod fold;

@@ -1,7 +1,7 @@
 //! Why a command refuses a file.
 
 ghost use Rattle.std.specs.Prelude.{◌≡◌};
-ghost use Rattle.commands.specs.Refusals.{of_basis_fault, of_cut_answer, of_family_fault, of_fold_fault, of_identity_fault, of_system_fault};
+ghost use Rattle.commands.specs.Refusals.{of_basis_fault, of_check_answer, of_cut_answer, of_family_fault, of_fold_fault, of_identity_fault, of_system_fault};
 ghost use Rattle.commands.specs.declared.refusal.Refusal.TheVariants.{NoMemory as Memory};
 
 use cut_family::{CutAnswer, CutFault};
@@ -12,6 +12,7 @@ use module_basis::BasisFault;
 use neat_system::SystemFault;
 use sector_lattice::Sector;
 use symmetry_fold::FoldFault;
+use system_check::{CheckAnswer, CheckFault};
 
 /// Why a command writes no text of a file: what the calls of the crates below answer, with the sector that
 /// it concerns.
@@ -23,6 +24,8 @@ pub enum Refusal {
     NotDivisible(u8),
     /// The probe's field is not tangent.
     NotTangent,
+    /// The written text is not right for the family.
+    CheckedNo(CheckFault),
     /// There is no cut family.
     Cut(CutFault),
     /// The permutation of this number, counted from 1, is the first that is not a symmetry.
@@ -64,6 +67,17 @@ impl From<IdentityFault> for Refusal {
             IdentityFault::NotDivisible(i) => Refusal::NotDivisible(i),
             IdentityFault::NotTangent => Refusal::NotTangent,
             IdentityFault::NoMemory => Refusal::NoMemory,
+        }
+    }
+}
+
+impl From<CheckAnswer> for Refusal {
+    ghost from_gives = { λ answer e. e ≡ of_check_answer answer };
+
+    fn from(answer: CheckAnswer) -> Refusal {
+        match answer {
+            CheckAnswer::No(fault) => Refusal::CheckedNo(fault),
+            CheckAnswer::NoMemory => Refusal::NoMemory,
         }
     }
 }

@@ -4,10 +4,9 @@ ghost use Rattle.std.specs.Prelude.{◌≡◌, ◌≢◌, ◌≤◌, ◌+◌, �
 ghost use Rattle.std.specs.Io.KnownBytes.{Keeps};
 ghost use Rattle.ibp_outside.specs.Causes.{Rose};
 ghost use Rattle.commands.specs.Words.{command_of};
-ghost use Rattle.commands.specs.Causes.{Accepts, IfGiven, IsAnswered, IsReached, IsReadThrough, IsRefused, ReadsFile, Tells};
+ghost use Rattle.commands.specs.Causes.{most_of, Accepts, IfGiven, IsAnswered, IsReached, IsReadThrough, IsRefused, ReadsFile, Tells};
 ghost use Rattle.commands.specs.declared.words.Command.{Command};
 ghost use Rattle.commands.specs.declared.status.Status.{Status};
-ghost use Rattle.family_file.specs.declared.limits.TheConstants.{MAX_FILE};
 
 use crate::answer::text_of;
 use crate::input::input_of;
@@ -49,7 +48,7 @@ pub fn run_calm<S: Source, K: Sink>(
     // Every other status of a command that reads a file comes after the source was read to its end, or past the limit.
     ensures read_through { (command : Command) → command_of (map string_bytes words.now) ≡ Some command
         → ReadsFile command → IsReached result
-        → IsReadThrough (MAX_FILE + 1) (S.left source.old) (S.left source.new) }
+        → IsReadThrough (most_of command) (S.left source.old) (S.left source.new) }
 
     // No other command touches the source, so none has a fault of reading.
     ensures no_file { (command : Command) → command_of (map string_bytes words.now) ≡ Some command

@@ -2,7 +2,7 @@
 
 ghost use Rattle.std.specs.Prelude.{◌≡◌, ◌+◌, ◌≤◌, ◌++◌, length, take, decimal};
 ghost use Rattle.commands.specs.Statuses.{status_of, input_status, words_status};
-ghost use Rattle.commands.specs.StatusText.{code_of, cut_message, message_of};
+ghost use Rattle.commands.specs.StatusText.{check_message, code_of, cut_message, field_message, message_of};
 
 use crate::input::InputFault;
 use crate::refusal::Refusal;
@@ -11,6 +11,7 @@ use cut_family::CutFault;
 use family_file::FileFault;
 use itoa::Buffer;
 use sector_lattice::Sector;
+use system_check::CheckFault;
 
 /// How a run ends.
 #[derive(Clone, Copy, Debug, PartialEq, Eq)]
@@ -38,6 +39,8 @@ pub enum Status {
     WriteFault,
     /// Memory ran out before the first byte was written.
     NoMemory,
+    /// The written text is not right for the family.
+    CheckedNo(CheckFault),
     /// The family has no cut family.
     Cut(CutFault),
     /// The permutation of this number, counted from 1, is the first that is not a symmetry of the family.
@@ -74,6 +77,7 @@ impl From<Refusal> for Status {
             Refusal::File(fault) => Status::File(fault),
             Refusal::NotDivisible(i) => Status::NotDivisible(i),
             Refusal::NotTangent => Status::NotTangent,
+            Refusal::CheckedNo(fault) => Status::CheckedNo(fault),
             Refusal::Cut(fault) => Status::Cut(fault),
             Refusal::NotSymmetric(number) => Status::NotSymmetric(number),
             Refusal::PairsSpent(sector) => Status::PairsSpent(sector),
@@ -100,6 +104,7 @@ impl Status {
             Status::CandidatesOver(_) => 8,
             Status::WriteFault => 9,
             Status::NoMemory => 10,
+            Status::CheckedNo(_) => 11,
             Status::Cut(_) => 12,
             Status::NotSymmetric(_) => 13,
         }
@@ -122,11 +127,24 @@ fn put(out: &mut [u8; 128], filled: usize, piece: &[u8]) -> usize
 fn put_numbered(out: &mut [u8; 128], piece: &[u8], number: u32) -> usize
     requires { length piece.now ≤ 64 }
     ensures length { result ≡ length (piece.now ++ decimal number) }
+    ensures few { result ≤ length piece.now + 40 }
     ensures text { take result out.new ≡ piece.now ++ decimal number }
 {
     let mut buffer = Buffer::new();
     let filled = put(out, 0, piece);
     put(out, filled, buffer.format(number).as_bytes())
+}
+
+// Puts the message of a field of a sector that is not right at the front of the buffer.
+fn put_field(out: &mut [u8; 128], field: u32, sector: Sector) -> usize
+    ensures length { result ≡ length (field_message sector field) }
+    ensures within { result ≤ 128 }
+    ensures text { take result out.new ≡ field_message sector field }
+{
+    let filled = put_numbered(out, b"checked no: field ", field);
+    let filled = put(out, filled, b" of sector ");
+    let mut buffer = Buffer::new();
+    put(out, filled, buffer.format(sector.0).as_bytes())
 }
 
 // Puts the message of a fault of a cut at the front of the buffer.
@@ -142,6 +160,23 @@ fn put_cut_fault(out: &mut [u8; 128], fault: &CutFault) -> usize
     }
 }
 
+// Puts the message of a fault of a written text at the front of the buffer.
+fn put_check_fault(out: &mut [u8; 128], fault: &CheckFault) -> usize
+    ensures length { result ≡ length (check_message fault.now) }
+    ensures within { result ≤ 128 }
+    ensures text { take result out.new ≡ check_message fault.now }
+{
+    match fault {
+        CheckFault::TooLong => put(out, 0, b"checked no: too long"),
+        CheckFault::BadText(line) => put_numbered(out, b"checked no: text line ", *line),
+        CheckFault::BadName => put(out, 0, b"checked no: name"),
+        CheckFault::BadField { sector, field } => put_field(out, *field, *sector),
+        CheckFault::BadRelation(number) => put_numbered(out, b"checked no: relation ", *number),
+        CheckFault::BadTargets => put(out, 0, b"checked no: targets"),
+        CheckFault::BadReduction(number) => put_numbered(out, b"checked no: reduction ", *number),
+    }
+}
+
 /// Puts the message of a status at the front of the buffer, without a line end, and answers its length,
 /// which is 0 for `Done`.
 pub fn status_text(status: &Status, out: &mut [u8; 128]) -> usize
@@ -154,7 +189,7 @@ pub fn status_text(status: &Status, out: &mut [u8; 128]) -> usize
         Status::Usage => put(
             out,
             0,
-            b"usage: neatibp identity | basis N | plain | system --workers W | drill N | meet N | cut N | fold",
+            b"usage: neatibp identity | basis N | plain | system --workers W | drill N | check | meet N | cut N | fold",
         ),
         Status::ReadFault => put(out, 0, b"read fault"),
         Status::File(fault) => put_numbered(out, b"file fault F", u32::from(fault.number())),
@@ -175,6 +210,7 @@ pub fn status_text(status: &Status, out: &mut [u8; 128]) -> usize
         }
         Status::WriteFault => put(out, 0, b"write fault"),
         Status::NoMemory => put(out, 0, b"no memory"),
+        Status::CheckedNo(fault) => put_check_fault(out, fault),
         Status::Cut(fault) => put_cut_fault(out, fault),
         Status::NotSymmetric(number) => put_numbered(out, b"not symmetric ", *number),
     }

@@ -25,6 +25,8 @@ pub enum Command {
     /// The reduced bases of the proper supersectors of the sector of this number and of itself, from one tangent
     /// module.
     Meet(u16),
+    /// Whether the written text behind the file is right for its family.
+    Check,
     /// The system where the variables of the sector of this number are cut.
     Cut(u16),
     /// The folded system.
@@ -120,6 +122,7 @@ fn command_of_parts(
     match (command?, number, workers) {
         ("identity", None, None) => Some(Command::Identity),
         ("plain", None, None) => Some(Command::Plain),
+        ("check", None, None) => Some(Command::Check),
         ("basis", Some(number), None) => Some(Command::Basis(number_in(number)?)),
         ("meet", Some(number), None) => Some(Command::Meet(number_in(number)?)),
         ("cut", Some(number), None) => Some(Command::Cut(number_in(number)?)),

@@ -1,3 +1,5 @@
+pub use Rattle.ibp_algebra.specs.Identity
+pub use Rattle.sector_lattice.specs.Sectors
 pub mod Name
 pub mod Shapes
 pub mod Caps

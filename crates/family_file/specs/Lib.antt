@@ -1,3 +1,7 @@
+pub use Rattle.family.specs.FamilyData
+pub use Rattle.family.specs.FamilyView
+pub use Rattle.family.specs.Within
+pub use Rattle.ibp_algebra.specs.Laurent
 pub mod Reading
 pub mod Table
 pub mod KeyViews

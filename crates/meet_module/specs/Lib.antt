@@ -1,2 +1,10 @@
+pub use Rattle.family.specs.Shapes
+pub use Rattle.ibp_algebra.specs.FormalSum
+pub use Rattle.ibp_algebra.specs.Polynomial
+pub use Rattle.module_basis.specs.GroebnerBasis
+pub use Rattle.module_basis.specs.PlainRun
+pub use Rattle.module_vec.specs.ModuleVector
+pub use Rattle.mono_order.specs.TermOrder
+pub use Rattle.sector_module.specs.SectorBasis
 pub mod Divided
 pub mod MeetRuns

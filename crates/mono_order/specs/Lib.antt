@@ -1,3 +1,4 @@
+pub use Rattle.ibp_algebra.specs.Exponents
 pub mod Monomial
 pub mod PartialSums
 pub mod Term

@@ -1,6 +1,6 @@
 -- A system has fewer than 2 ^ 31 relations.
-use Rattle.std.proofs.Common.{◌≡◌, ℕ, ◌*◌, ◌+◌, ◌^◌, ◌<◌, ◌≤◌, List, [], ◌∷◌, ◌++◌, length, sym, ◌∙◌, ap, subst, inl, inr, arith}
-use Rattle.std.specs.Prelude.{Contains, map}
+use Rattle.std.proofs.Common.{◌≡◌, ◌*◌, ◌+◌, ◌^◌, ◌<◌, ◌≤◌, List, [], ◌∷◌, ◌++◌, length, ◌∙◌, ap, subst, inl, inr, arith}
+use Rattle.std.specs.Prelude.{Contains}
 use Rattle.std.specs.List.{AllByRecursion}
 use Rattle.std.proofs.lemmas.List.{length-append, length-map}
 use Rattle.std.proofs.lemmas.List.Elements.{recursion_from_All}
@@ -14,7 +14,6 @@ use Rattle.relay_core.specs.Family.{book}
 use Rattle.relay_core.proofs.Counts.{number_below}
 use Rattle.relay_core.proofs.SectorBooks.{a_member}
 use Rattle.sector_job.specs.Candidates.{Integral}
-use Rattle.sector_job.specs.Outcomes.{AreTailsOf}
 use Rattle.sector_job.specs.PieceLaws.{opened, lawful}
 use Rattle.system_text.specs.declared.value.System.{System}
 use Rattle.target_rows.proofs.PickedPlaces.{few_places}

@@ -1,3 +1,9 @@
+pub use Rattle.family.specs.FamilyData
+pub use Rattle.family.specs.FamilyView
+pub use Rattle.family.specs.Within
+pub use Rattle.relay_core.specs.Relay
+pub use Rattle.sector_job.specs.Candidates
+pub use Rattle.sector_job.specs.Outcomes
 pub mod Answer
 pub mod Gathering
 pub mod Headline

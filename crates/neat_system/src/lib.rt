@@ -13,6 +13,6 @@ mod plain;
 mod relations;
 
 pub use alone::{opened, work_all};
-pub use closing::close;
+pub use closing::{close, close_wide};
 pub use fault::SystemFault;
 pub use plain::run_plain;

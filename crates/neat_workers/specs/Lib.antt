@@ -1,2 +1,3 @@
 pub mod Jobs
+pub mod Portions
 pub mod Seats

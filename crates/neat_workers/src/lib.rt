@@ -2,9 +2,10 @@
 #![tactic(auto)]
 
 mod finishing;
+mod portions;
 mod seats;
 mod worker;
 mod workers;
 
 pub use finishing::finish_alone;
-pub use workers::run_workers;
+pub use workers::{left_by_workers, run_workers};

@@ -3,15 +3,17 @@ ghost use Rattle.std.specs.Prelude.{◌≡◌, ◌↔◌, IsTrue};
 ghost use Rattle.neat_workers.specs.Seats.{KeepsParts};
 ghost use Rattle.neat_workers.specs.Jobs.{FitsFamily};
 
+use crate::portions::{Portion, portions_of};
 use family::Family;
 use ibp_outside::Gate;
-use relay_core::{Job, Taken};
+use relay_core::{Job, Piece, Taken};
 use relay_desk::{Desk, Seat};
-use sector_job::{Plan, SectorResult, work};
+use sector_job::{Plan, SectorResult, work_wide};
 use sector_lattice::Sector;
 use std::alloc::Global;
 use std::sync::Wait;
 use std::sync::ledger::Ledger;
+use std::thread::Threads;
 
 // The next job. None where all is done or memory ran out.
 fn next_job<L: Ledger, C: Ledger, R: Wait>(
@@ -41,12 +43,55 @@ fn fits(family: &Family, job: &Job) -> bool
     !family.is_zero(job.sector) && job.targets.as_slice().iter().all(|target| target.n() == n)
 }
 
+// Into how many parts the work on a sector is split.
+const PARTS_OF_A_SECTOR: u32 = 2;
+
 // What comes of a job. None where it doesn't fit, or memory ran out.
-fn worked(alloc: Global, plan: &Plan, job: &Job) -> Option<SectorResult> {
+fn worked<R: Threads + Sync>(
+    rt: &R,
+    alloc: Global,
+    plan: &Plan,
+    job: &Job,
+) -> Option<SectorResult> {
     if !fits(plan.family(), job) {
         return None;
     }
-    work(alloc, plan, job).ok()
+    work_wide(rt, alloc, plan, job, PARTS_OF_A_SECTOR).ok()
+}
+
+// Posts a portion of the tails of a piece, and answers whether that went through.
+fn post_portion<L: Ledger, C: Ledger, R: Wait>(
+    rt: &R,
+    desk: &Desk<SectorResult, L, C>,
+    seat: &Seat<L, C>,
+    piece: &SectorResult,
+    portion: Portion,
+) -> bool {
+    let mut guard = desk.locked.lock(rt);
+    guard.post(seat, piece, portion.first, portion.end).is_ok()
+}
+
+// Posts the tails of a piece, each portion in a holding of its own, and answers whether all went through.
+fn post_tails<L: Ledger, C: Ledger, R: Wait>(
+    rt: &R,
+    alloc: Global,
+    desk: &Desk<SectorResult, L, C>,
+    seat: &Seat<L, C>,
+    piece: &SectorResult,
+) -> bool {
+    let Ok(count) = u32::try_from(piece.tails().len()) else {
+        return false;
+    };
+    let Ok(portions) = portions_of(alloc, count) else {
+        return false;
+    };
+    for portion in portions.as_slice() {
+        if !post_portion(rt, desk, seat, piece, *portion) {
+            return false;
+        }
+        desk.changed.notify_all();
+    }
+    true
 }
 
 // Finishes a sector with its piece, and answers whether that went through.
@@ -61,8 +106,9 @@ fn finish_with<L: Ledger, C: Ledger, R: Wait>(
     desk.locked.lock(rt).finish(seat, piece).is_ok()
 }
 
-// Works on a job while no lock is held, and finishes its sector. Where either fails the answer is no.
-fn work_on<L: Ledger, C: Ledger, R: Wait>(
+// Works on a job while no lock is held, posts its tails, and finishes its sector. Where any of these fails the answer is
+// no.
+fn work_on<L: Ledger, C: Ledger, R: Threads + Wait + Sync>(
     rt: &R,
     alloc: Global,
     plan: &Plan,
@@ -72,10 +118,13 @@ fn work_on<L: Ledger, C: Ledger, R: Wait>(
 ) -> bool
     ensures { KeepsParts seat.old seat.new }
 {
-    match worked(alloc, plan, job) {
-        Some(piece) => finish_with(rt, desk, seat, piece),
-        None => false,
+    let Some(piece) = worked(rt, alloc, plan, job) else {
+        return false;
+    };
+    if !post_tails(rt, alloc, desk, seat, &piece) {
+        return false;
     }
+    finish_with(rt, desk, seat, piece)
 }
 
 // Gives a sector back.
@@ -88,9 +137,9 @@ fn give_back<L: Ledger, C: Ledger, R: Wait>(
     let _ = desk.locked.lock(rt).give_back(seat, sector);
 }
 
-/// Takes a job, passes the gate, works and finishes, until all is done. A worker that cannot finish a job gives its
+/// Takes a job, passes the gate, works, posts and finishes, until all is done. A worker that cannot finish a job gives its
 /// sector back and ends, and the others go on.
-pub fn work_at<L: Ledger, C: Ledger, R: Wait, G: Gate>(
+pub fn work_at<L: Ledger, C: Ledger, R: Threads + Wait + Sync, G: Gate>(
     rt: &R,
     alloc: Global,
     plan: &Plan,

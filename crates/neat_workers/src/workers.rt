@@ -9,7 +9,7 @@ use crate::seats::work_at_all;
 use family::Family;
 use ibp_base::NoMemory;
 use ibp_outside::Gate;
-use neat_system::{SystemFault, close, opened};
+use neat_system::{SystemFault, close_wide, opened};
 use relay_core::RelayState;
 use relay_desk::{Desk, Opened};
 use sector_job::{Plan, SectorResult};
@@ -20,8 +20,8 @@ use std::sync::ledger::{Blank, Ledger};
 use std::thread::Threads;
 use system_text::System;
 
-// The relay that the workers leave. What it has is known by its own type alone.
-fn left_by_workers<
+/// The relay that the workers leave. What it has is known by its own type alone.
+pub fn left_by_workers<
     L: Ledger + Send + Sync,
     C: Ledger + Send + Sync,
     R: Threads + Wait + Sync,
@@ -69,5 +69,5 @@ pub fn run_workers<R: Threads + Wait + Sync, G: Gate>(
         rt, alloc, &plan, workers, gate, finishes, closings,
     )?;
     let state = finish_alone(alloc, &plan, state)?;
-    close(alloc, &state)
+    close_wide(rt, alloc, &state, workers)
 }

@@ -1,3 +1,7 @@
+pub use Rattle.ibp_algebra.specs.ExponentOrder
+pub use Rattle.ibp_algebra.specs.Exponents
+pub use Rattle.ibp_algebra.specs.FormalSum
+pub use Rattle.ibp_algebra.specs.Polynomial
 pub mod Token
 pub mod Tree
 pub mod Spelling

@@ -1,3 +1,9 @@
+pub use Rattle.ibp_algebra.specs.Combination
+pub use Rattle.ibp_algebra.specs.FormalSum
+pub use Rattle.ibp_algebra.specs.Spans
+pub use Rattle.ibp_field.specs.Arithmetic
+pub use Rattle.sector_lattice.specs.Sectors
+pub use Rattle.sparse_rows.specs.Rows
 pub mod Echelons
 pub mod KeptRows
 pub mod RowSpans

@@ -1,5 +1,5 @@
 -- The candidates are listed seed by seed, and at each seed field by field.
-use Rattle.std.proofs.Common.{◌≡◌, ℕ, suc, ◌+◌, ◌-◌, ◌*◌, ◌<◌, ◌≤◌, List, [], ◌∷◌, ◌++◌, map, length, get_or, take, append-nil, refl, sym, ◌∙◌, ap, subst, arith}
+use Rattle.std.proofs.Common.{◌≡◌, ℕ, suc, ◌+◌, ◌-◌, ◌*◌, ◌<◌, ◌≤◌, List, [], ◌∷◌, ◌++◌, map, length, get_or, take, drop, append-nil, refl, sym, ◌∙◌, ap, subst, arith}
 use Rattle.std.specs.List.{AllZip, flat_map}
 use Rattle.std.proofs.lemmas.List.{take_more, take_all, map-append, length-append, get_or_default}
 use Rattle.std.proofs.lemmas.List.Concat.{flat_map-append}
@@ -8,6 +8,7 @@ use Rattle.std.proofs.lemmas.Slice.Zip.{all_zipped_more, AllZip-long}
 use Rattle.sparse_rows.specs.Rows.{IntegralSum}
 use Rattle.family.specs.FamilyData.{FamilyData}
 use Rattle.family.specs.declared.parts.StrippedField.{StrippedField}
+use Rattle.relation_pick.proofs.Pieces.{front, front_more as front_step}
 use Rattle.sector_job.specs.Candidates.{Integral, Label, labels_at, labels, field_numbered, IsCandidate, AreCandidates}
 
 -- a list that is made element by element
@@ -90,3 +91,18 @@ module _ (family : FamilyData) (fields : List StrippedField) where
   -- as many as there are fields and seeds
   pub count_rows : (seeds : List Integral) (rows : List IntegralSum) → AreCandidates family fields seeds rows → length rows ≡ length fields * length seeds
   count_rows seeds rows h = AllZip-long Goes (labels (length fields) seeds) rows h ∙ count_labels (length fields) seeds
+
+  -- the candidates at some seeds, and then those at more
+  pieces_more : (seeds more : List Integral) (rows others : List IntegralSum) → AreCandidates family fields seeds rows → AreCandidates family fields more others → AreCandidates family fields (seeds ++ more) (rows ++ others)
+  pieces_more seeds more rows others h k =
+      subst (λ (names : List Label). AllZip Goes names (rows ++ others)) (sym (flat_map-append (labels_at (length fields)) seeds more))
+      (zip_append Goes (labels (length fields) seeds) (labels (length fields) more) rows others h k)
+
+  -- the candidates at the seeds of the pieces before number n, and then those at piece n
+  pub joins : (seeds piece : List Integral) (size n m : ℕ) (rows others new : List IntegralSum) → m ≡ n + 1 → piece ≡ take size (drop (n * size) seeds) → new ≡ rows ++ others
+      → AreCandidates family fields (front seeds size n) rows → AreCandidates family fields piece others → AreCandidates family fields (front seeds size m) new
+  joins seeds piece size n m rows others new next is joined before here =
+      let both = pieces_more (front seeds size n) piece rows others before here in
+      let whole : front seeds size m ≡ front seeds size n ++ piece = ap (front seeds size) next ∙ front_step seeds size n ∙ ap (λ (ss : List Integral). front seeds size n ++ ss) (sym is) in
+      subst (λ (ss : List Integral). AreCandidates family fields ss new) (sym whole)
+      (subst (λ (all : List IntegralSum). AreCandidates family fields (front seeds size n ++ piece) all) (sym joined) both)

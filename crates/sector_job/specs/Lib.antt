@@ -1,3 +1,12 @@
+pub use Rattle.family.specs.Conditions
+pub use Rattle.family.specs.FamilyData
+pub use Rattle.family.specs.FamilyView
+pub use Rattle.family.specs.Within
+pub use Rattle.family.specs.contracts.family.Family
+pub use Rattle.family.specs.contracts.family.FamilyEq.TheImpl.Laws
+pub use Rattle.sector_lattice.specs.Ranges
+pub use Rattle.sector_lattice.specs.Seeds
+pub use Rattle.sparse_rows.specs.Rows
 pub mod Candidates
 pub mod Outcomes
 pub mod Results

@@ -1,5 +1,6 @@
-// The candidates of a sector, row by row.
-ghost use Rattle.std.specs.Prelude.{◌≡◌, length, IfOk};
+// The candidates of a sector, row by row, and how they are listed.
+ghost use denote.Param.Send.{IsSync};
+ghost use Rattle.std.specs.Prelude.{◌≡◌, ◌≤◌, length, IfOk};
 ghost use Rattle.std.specs.List.{All, AllZip};
 ghost use Rattle.mono_order.specs.declared.limits.TheConstants.{RUN_DEGREE};
 ghost use Rattle.family.specs.Shapes.{IsField, ArePowers};
@@ -11,9 +12,97 @@ ghost use Rattle.sector_job.specs.Candidates.{labels_at, field_numbered, IsCandi
 use family::{Family, StrippedField};
 use ibp_base::NoMemory;
 use ibp_relation::candidate;
+use relation_pick::{AtOnce, InTurn, piece_size};
 use sector_lattice::{Integral, Sector};
 use sparse_rows::Row;
 use std::alloc::Global;
+use std::thread;
+use std::thread::Threads;
+
+/// How the candidates of a sector are listed.
+pub trait Listing {
+    // What is asked of what its threads share.
+    ghost can_list: { Type 0 };
+
+    /// The candidates of the fields at the seeds of their sector: lowest seed first, and at each seed that of each
+    /// field in turn.
+    fn list(
+        &self,
+        alloc: Global,
+        family: &Family,
+        sector: Sector,
+        fields: &[StrippedField],
+        seeds: &[Integral],
+    ) -> Result<Vec<Row>, NoMemory>
+        requires can { can_list }
+        requires shape { All (λ field. IsField family.now.n RUN_DEGREE field.c field.b) fields.now }
+        requires members { All (IsInSectorModule family.now.baikov sector.0) fields.now }
+        requires powers { All (ArePowers family.now.n) seeds.now }
+        requires of_sector { All (λ seed. sector_of seed ≡ sector.0) seeds.now }
+        ensures { IfOk result (λ rows. AreCandidates (family_view family.now) fields.now seeds.now rows.items) };
+}
+
+impl Listing for InTurn {
+    ghost can_list = { Unit {0} };
+
+    fn list(
+        &self,
+        alloc: Global,
+        family: &Family,
+        sector: Sector,
+        fields: &[StrippedField],
+        seeds: &[Integral],
+    ) -> Result<Vec<Row>, NoMemory> {
+        all_candidates(alloc, family, sector, fields, seeds)
+    }
+}
+
+impl<'a, R: Threads + Sync> Listing for AtOnce<'a, R> {
+    ghost can_list = { IsSync R.row };
+
+    fn list(
+        &self,
+        alloc: Global,
+        family: &Family,
+        sector: Sector,
+        fields: &[StrippedField],
+        seeds: &[Integral],
+    ) -> Result<Vec<Row>, NoMemory> {
+        let parts = self.parts.max(1);
+        candidates_at_once(self.rt, alloc, family, sector, fields, seeds, parts)
+    }
+}
+
+// The candidates, where the seeds are cut into so many consecutive pieces whose candidates are made at once.
+fn candidates_at_once<R: Threads + Sync>(
+    rt: &R,
+    alloc: Global,
+    family: &Family,
+    sector: Sector,
+    fields: &[StrippedField],
+    seeds: &[Integral],
+    parts: u32,
+) -> Result<Vec<Row>, NoMemory>
+    requires shape { All (λ field. IsField family.now.n RUN_DEGREE field.c field.b) fields.now }
+    requires members { All (IsInSectorModule family.now.baikov sector.0) fields.now }
+    requires powers { All (ArePowers family.now.n) seeds.now }
+    requires of_sector { All (λ seed. sector_of seed ≡ sector.0) seeds.now }
+    requires some { 1 ≤ parts }
+    ensures { IfOk result (λ rows. AreCandidates (family_view family.now) fields.now seeds.now rows.items) }
+{
+    let size = piece_size(seeds.len(), parts);
+    let listed = |_start: usize, piece: &[Integral]| -> Result<Vec<Row>, NoMemory>
+        requires { All (λ field. IsField family.now.n RUN_DEGREE field.c field.b) fields.now × All (IsInSectorModule family.now.baikov sector.0) fields.now × All (ArePowers family.now.n) piece.now × All (λ seed. sector_of seed ≡ sector.0) piece.now }
+        ensures { IfOk result (λ rows. AreCandidates (family_view family.entry.now) fields.entry.now piece.now rows.items) }
+    { all_candidates(alloc, family, sector, fields, piece) };
+    let pieces = thread::map_chunks(rt, alloc, seeds, size, &listed)?;
+    let mut rows = Vec::new(alloc);
+    for piece in pieces {
+        let mut more = piece?;
+        rows.append(&mut more)?;
+    }
+    Ok(rows)
+}
 
 /// The candidates of the fields at the seeds of their sector: lowest seed first, and at each seed that of each
 /// field in turn.

@@ -15,4 +15,4 @@ pub use outcome::Outcome;
 pub use plan::Plan;
 pub use sector_result::SectorResult;
 pub use seeding::seeds_for;
-pub use working::work;
+pub use working::{work, work_wide};

@@ -1,14 +1,15 @@
 // The work on a sector.
-ghost use Rattle.std.specs.Prelude.{◌≡◌, ℕ, false, IfOk, length};
+ghost use Rattle.std.specs.Prelude.{◌≡◌, ℕ, ◌≤◌, false, IfOk, length};
 ghost use Rattle.std.specs.List.{All};
 ghost use Rattle.mono_order.specs.declared.limits.TheConstants.{RUN_DEGREE};
 ghost use Rattle.family.specs.Conditions.{IsInSectorModule, is_zero_sector};
 ghost use Rattle.family.specs.FamilyView.{family_view};
 ghost use Rattle.family.specs.Shapes.{IsField};
+ghost use Rattle.relation_pick.specs.declared.parts.TheConstants.{PARTS};
 ghost use Rattle.sector_job.specs.Outcomes.{FitsTargets, HasBasis, IsOutcome};
 
 use crate::bounds::{are_too_many, most_dots, most_rank};
-use crate::candidates::all_candidates;
+use crate::candidates::Listing;
 use crate::outcome::Outcome;
 use crate::plan::Plan;
 use crate::sector_result::SectorResult;
@@ -16,10 +17,12 @@ use crate::tails::tails_of;
 use family::Family;
 use ibp_base::{List, NoMemory};
 use module_basis::BasisFault;
+use relation_pick::{AtOnce, InTurn, PARTS};
 use relay_core::Job;
 use sector_lattice::{Integral, Sector, seeds};
 use sector_module::{Generators, sector_basis};
 use std::alloc::Global;
+use std::thread::Threads;
 
 /// Works on a job's sector: the reduced basis of its module, the identities of the basis at the seeds that the
 /// targets ask for, and the integrals of proper subsectors in the reduced forms of the targets by these
@@ -33,23 +36,69 @@ pub fn work(alloc: Global, plan: &Plan, job: &Job) -> Result<SectorResult, NoMem
     ensures targets { IfOk result (λ piece. piece.targets ≡ job.now.targets) }
     ensures outcome { IfOk result (λ piece. IsOutcome (family_view plan.now) job.now.sector.0 job.now.targets piece.outcome) }
 {
-    let outcome = outcome_of(alloc, plan.family(), job.sector, job.targets.as_slice())?;
+    work_by(alloc, &InTurn, plan, job)
+}
+
+/// Works on a job's sector as `work` does. The seeds are cut into so many consecutive pieces, whose identities are made
+/// in threads of their own and joined in order. It may wait for the threads that it starts.
+pub fn work_wide<R: Threads + Sync>(
+    rt: &R,
+    alloc: Global,
+    plan: &Plan,
+    job: &Job,
+    parts: u32,
+) -> Result<SectorResult, NoMemory>
+    requires powers { All (λ target. length target ≡ plan.now.n) job.now.targets }
+    requires not_zero { is_zero_sector plan.now.zero job.now.sector.0 ≡ false }
+    requires parts { (1 ≤ parts) × (parts ≤ PARTS) }
+    ensures plan { IfOk result (λ piece. piece.plan ≡ plan.now) }
+    ensures sector { IfOk result (λ piece. piece.sector ≡ job.now.sector) }
+    ensures targets { IfOk result (λ piece. piece.targets ≡ job.now.targets) }
+    ensures outcome { IfOk result (λ piece. IsOutcome (family_view plan.now) job.now.sector.0 job.now.targets piece.outcome) }
+{
+    work_by(alloc, &AtOnce { rt, parts }, plan, job)
+}
+
+// The work on a job's sector, with its candidates listed in this way.
+fn work_by<L: Listing>(
+    alloc: Global,
+    listing: &L,
+    plan: &Plan,
+    job: &Job,
+) -> Result<SectorResult, NoMemory>
+    requires can { L.can_list }
+    requires powers { All (λ target. length target ≡ plan.now.n) job.now.targets }
+    requires not_zero { is_zero_sector plan.now.zero job.now.sector.0 ≡ false }
+    ensures plan { IfOk result (λ piece. piece.plan ≡ plan.now) }
+    ensures sector { IfOk result (λ piece. piece.sector ≡ job.now.sector) }
+    ensures targets { IfOk result (λ piece. piece.targets ≡ job.now.targets) }
+    ensures outcome { IfOk result (λ piece. IsOutcome (family_view plan.now) job.now.sector.0 job.now.targets piece.outcome) }
+{
+    let outcome = outcome_of(
+        alloc,
+        listing,
+        plan.family(),
+        job.sector,
+        job.targets.as_slice(),
+    )?;
     let targets = List::from_vec(job.targets.as_slice().to_vec(alloc)?);
     Ok(SectorResult::new(plan.share()?, job.sector, targets, outcome))
 }
 
 // What comes of the sector for these targets.
-fn outcome_of(
+fn outcome_of<L: Listing>(
     alloc: Global,
+    listing: &L,
     family: &Family,
     sector: Sector,
     targets: &[Integral],
 ) -> Result<Outcome, NoMemory>
-    requires { FitsTargets (family_view family.now) sector.0 targets.now }
+    requires can { L.can_list }
+    requires fits { FitsTargets (family_view family.now) sector.0 targets.now }
     ensures { IfOk result (λ outcome. IsOutcome (family_view family.now) sector.0 targets.now outcome) }
 {
     match sector_basis(alloc, family, sector) {
-        Ok(generators) => outcome_by(alloc, family, targets, generators),
+        Ok(generators) => outcome_by(alloc, listing, family, targets, generators),
         Err(BasisFault::PairsSpent) => Ok(Outcome::PairsSpent),
         Err(BasisFault::DegreeOver) => Ok(Outcome::DegreeOver),
         Err(BasisFault::NoMemory) => Err(NoMemory),
@@ -57,12 +106,14 @@ fn outcome_of(
 }
 
 // What comes of a sector by its basis.
-fn outcome_by(
+fn outcome_by<L: Listing>(
     alloc: Global,
+    listing: &L,
     family: &Family,
     targets: &[Integral],
     generators: Generators,
 ) -> Result<Outcome, NoMemory>
+    requires can { L.can_list }
     requires fits { FitsTargets (family_view family.now) generators.sector.0 targets.now }
     requires basis { HasBasis (family_view family.now) generators.sector.0 generators.fields }
     requires shape { All (λ field. IsField family.now.n RUN_DEGREE field.c field.b) generators.fields }
@@ -77,7 +128,7 @@ fn outcome_by(
         return Ok(Outcome::CandidatesOver);
     }
     let seeds = seeds(alloc, sector, family.n, dots, rank)?;
-    let candidates = all_candidates(alloc, family, sector, fields, seeds.as_slice())?;
+    let candidates = listing.list(alloc, family, sector, fields, seeds.as_slice())?;
     let tails = tails_of(alloc, sector, targets, &candidates)?;
     Ok(Outcome::Worked {
         generators,

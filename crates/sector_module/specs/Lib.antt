@@ -1,3 +1,7 @@
+pub use Rattle.family.specs.Conditions
+pub use Rattle.family.specs.Shapes
+pub use Rattle.ibp_algebra.specs.Polynomial
+pub use Rattle.module_basis.specs.PlainRun
 pub mod Generators
 pub mod Factors
 pub mod PairOrders

@@ -1,0 +1,1 @@
+pub use Rattle.ibp_algebra.specs.FormalSum

@@ -1,3 +1,6 @@
+pub use Rattle.family.specs.Name
+pub use Rattle.family.specs.Shapes
+pub use Rattle.line_reader.specs.Fronts
 pub mod Texts
 pub mod Systems
 pub mod Summaries

@@ -1,1 +1,2 @@
+pub use Rattle.family.specs.FamilyView
 pub mod Reductions

@@ -2,9 +2,8 @@
 ghost use Rattle.std.specs.Prelude.{◌≡◌, ◌≢◌, ◌≤◌, ◌+◌, ◌⊎◌, map, string_bytes, None, Some, IfSome, IsOkAnd};
 ghost use Rattle.std.specs.Io.KnownBytes.{Keeps};
 ghost use Rattle.ibp_outside.specs.Causes.{Rose};
-ghost use Rattle.family_file.specs.Family.{family_of};
 ghost use Rattle.relay_desk.specs.declared.limits.TheConstants.{WORKERS};
-ghost use Rattle.commands.specs.Causes.{need_of, Accepts, IfGiven, IsAnswered, IsReached, IsReadThrough, IsRefused, ReadsFile, Tells};
+ghost use Rattle.commands.specs.Causes.{given_of, most_of, Accepts, IfGiven, IsAnswered, IsReached, IsReadThrough, IsRefused, ReadsFile, Tells};
 ghost use Rattle.commands.specs.declared.words.Command.{Command};
 ghost use Rattle.commands.specs.declared.words.Command.TheVariants as command;
 ghost use Rattle.top_call.specs.Words.{asked_of};
@@ -30,15 +29,15 @@ fn run_system<R: Threads + Wait + Sync, S: Source, K: Sink, G: Gate>(
 ) -> Status
     requires { (1 ≤ workers) × (workers ≤ WORKERS) }
     ensures no_usage { result ≢ Status.Usage }
-    ensures told { IfSome (S.left source.old) (λ input. Tells command.Plain (family_of (need_of command.Plain) input) (K.taken sink.old) (K.taken sink.new) result) }
-    ensures refused { (status : Status) → IfSome (S.left source.old) (λ input. IsRefused command.Plain (family_of (need_of command.Plain) input) status → IsAnswered status result) }
+    ensures told { IfSome (S.left source.old) (λ input. Tells command.Plain (given_of command.Plain input) (K.taken sink.old) (K.taken sink.new) result) }
+    ensures refused { (status : Status) → IfSome (S.left source.old) (λ input. IsRefused command.Plain (given_of command.Plain input) status → IsAnswered status result) }
     ensures nothing_written { result ≢ Status.Done → result ≢ Status.WriteFault → Keeps (K.taken sink.old) (K.taken sink.new) }
     ensures read_through { IsReached result → IsReadThrough (MAX_FILE + 1) (S.left source.old) (S.left source.new) }
     ensures read_fault { result ≡ Status.ReadFault → Rose (S.faults source.old) (S.faults source.new) }
     ensures write_fault { result ≡ Status.WriteFault → Rose (K.faults sink.old) (K.faults sink.new) }
     ensures read_later { S.faults source.old ≤ S.faults source.new }
     ensures write_later { K.faults sink.old ≤ K.faults sink.new }
-    ensures complete { IfSome (S.left source.old) (λ input. IsOkAnd (family_of (need_of command.Plain) input) (Accepts command.Plain) → ¬ Rose (S.faults source.old) (S.faults source.new) → ¬ Rose (K.faults sink.old) (K.faults sink.new) → (result ≡ Status.Done) ⊎ (result ≡ Status.NoMemory)) }
+    ensures complete { IfSome (S.left source.old) (λ input. IsOkAnd (given_of command.Plain input) (Accepts command.Plain) → ¬ Rose (S.faults source.old) (S.faults source.new) → ¬ Rose (K.faults sink.old) (K.faults sink.new) → (result ≡ Status.Done) ⊎ (result ≡ Status.NoMemory)) }
 {
     let bytes = match read_input(alloc, source, MAX_FILE) {
         Ok(bytes) => bytes,
@@ -83,7 +82,7 @@ pub fn run_tool<R: Threads + Wait + Sync, S: Source, K: Sink, G: Gate>(
     ensures nothing_written { result ≢ Status.Done → result ≢ Status.WriteFault → Keeps (K.taken sink.old) (K.taken sink.new) }
 
     // Every other status of a command that reads a file comes after the source was read to its end, or past the limit.
-    ensures read_through { (command : Command) → asked_of (map string_bytes words.now) ≡ Some command → ReadsFile command → IsReached result → IsReadThrough (MAX_FILE + 1) (S.left source.old) (S.left source.new) }
+    ensures read_through { (command : Command) → asked_of (map string_bytes words.now) ≡ Some command → ReadsFile command → IsReached result → IsReadThrough (most_of command) (S.left source.old) (S.left source.new) }
 
     // No other command touches the source, so none has a fault of reading.
     ensures no_file { (command : Command) → asked_of (map string_bytes words.now) ≡ Some command → ¬ ReadsFile command → source.new ≡ source.old }

@@ -1,10 +1,9 @@
 // What `system` writes of a file.
 ghost use Rattle.std.specs.Prelude.{◌≡◌, ◌≤◌};
 ghost use Rattle.family.specs.FamilyView.{family_view};
-ghost use Rattle.family_file.specs.Family.{family_of};
 ghost use Rattle.relay_desk.specs.declared.limits.TheConstants.{WORKERS};
 ghost use Rattle.commands.specs.Answers.{IsAnswer};
-ghost use Rattle.commands.specs.Causes.{need_of, Answers};
+ghost use Rattle.commands.specs.Causes.{given_of, Answers};
 ghost use Rattle.commands.specs.Plain.{IsSystemText, RefusesPlain};
 ghost use Rattle.commands.specs.declared.words.Command.TheVariants as command;
 
@@ -44,7 +43,7 @@ pub fn text_of<R: Threads + Wait + Sync, G: Gate>(
     gate: &G,
 ) -> Result<Vec<u8>, Refusal>
     requires { (1 ≤ workers) × (workers ≤ WORKERS) }
-    ensures { Answers command.Plain (family_of (need_of command.Plain) bytes.now) result }
+    ensures { Answers command.Plain (given_of command.Plain bytes.now) result }
 {
     let family = read_family(alloc, bytes, Need::Family)?;
     system_text(rt, alloc, &family, workers, gate)

@@ -1,10 +1,12 @@
+use ibp_base::List;
 use ibp_field::Residue;
-use relation_pick::{Picked, pick, reduced_forms};
+use relation_pick::{Picked, pick, pick_wide, reduced_forms};
 use row_echelon::{Echelon, Inserted, Reduced};
 use sector_lattice::{Integral, Sector};
 use sparse_rows::Row;
 use std::alloc::Global;
 use std::process::Abort;
+use std::thread::Threads;
 
 fn integral(rt: &impl Abort, powers: &[i16]) -> Integral {
     Integral::new(powers).expect(rt, "powers in range")
@@ -82,27 +84,70 @@ fn independent_rows_are_kept_and_reduce(rt: HostRuntime) {
     assert_eq!(rt; reduced.weights.as_slice(), weights.as_slice());
 }
 
-// What is picked of three rows for the integral with power 3.
-fn picked(rt: &impl Abort, alloc: Global) -> Picked {
-    let candidates = [
+// Three rows, of which one has the integral with power 4.
+fn three_rows(rt: &impl Abort, alloc: Global) -> [Row; 3] {
+    [
         row(rt, alloc, &[(2, 2147483646), (1, 5)]),
         row(rt, alloc, &[(3, 2147483645), (2, 4)]),
         row(rt, alloc, &[(4, 1), (1, 1)]),
-    ];
-    let targets = [row(rt, alloc, &[(3, 1)])];
-    pick(alloc, &candidates, &targets).ok().expect(rt, "memory")
+    ]
 }
 
 #[test]
 fn what_the_target_needs_is_picked(rt: HostRuntime) {
     let alloc = rt.alloc();
-    let picked = picked(&rt, alloc);
+    let targets = [row(&rt, alloc, &[(3, 1)])];
+    let picked = pick(alloc, &three_rows(&rt, alloc), &targets);
+    let picked = picked.ok().expect(&rt, "memory");
     let weights = [(0, Residue::of(2147483645)), (1, Residue::of(1073741823))];
     assert_eq!(rt; picked.written.as_slice(), [0, 1].as_slice());
     assert!(rt; picked.reductions.as_slice() == [row(&rt, alloc, &[(1, 10)])].as_slice());
     assert_eq!(rt; picked.weights.as_slice().len(), 1);
     for found in picked.weights.as_slice() {
         assert_eq!(rt; found.as_slice(), weights.as_slice());
+    }
+}
+
+// What is picked of the three rows for the integrals with the powers 3, 2 and 4, in so many parts.
+fn picked_wide<R: Threads + Sync + Abort>(rt: &R, alloc: Global, parts: u32) -> Picked {
+    let targets = [
+        row(rt, alloc, &[(3, 1)]),
+        row(rt, alloc, &[(2, 1)]),
+        row(rt, alloc, &[(4, 1)]),
+    ];
+    assert!(rt; 1 <= parts && parts <= 64);
+    let picked = pick_wide(rt, alloc, &three_rows(rt, alloc), &targets, parts);
+    picked.ok().expect(rt, "memory")
+}
+
+// Whether there are three lists of weights, those for the integrals with the powers 3, 2 and 4.
+fn are_the_weights(found: &[List<(u32, Residue)>]) -> bool {
+    let first = [(0, Residue::of(2147483645)), (1, Residue::of(1073741823))];
+    let second = [(0, Residue::of(2147483646))];
+    let third = [(2, Residue::one())];
+    match found {
+        [one, two, three] => {
+            one.as_slice() == first.as_slice()
+                && two.as_slice() == second.as_slice()
+                && three.as_slice() == third.as_slice()
+        }
+        _ => false,
+    }
+}
+
+#[test]
+fn each_number_of_parts_gives_the_same_pick(rt: HostRuntime) {
+    let alloc = rt.alloc();
+    let forms = [
+        row(&rt, alloc, &[(1, 10)]),
+        row(&rt, alloc, &[(1, 5)]),
+        row(&rt, alloc, &[(1, -1)]),
+    ];
+    for parts in [1, 2, 3, 64] {
+        let picked = picked_wide(&rt, alloc, parts);
+        assert_eq!(rt; picked.written.as_slice(), [0, 1, 2].as_slice());
+        assert!(rt; picked.reductions.as_slice() == forms.as_slice());
+        assert!(rt; are_the_weights(picked.weights.as_slice()));
     }
 }
 

@@ -25,6 +25,17 @@ pub struct Outside {
     pub room: Option<usize>,
 }
 
+/// The written text that stands behind the family file.
+#[derive(Drop, Deserialize)]
+#[serde(deny_unknown_fields)]
+pub struct Behind {
+    /// The file of the folder that it is made of.
+    pub name: String,
+    /// What changes in it, in this order.
+    #[serde(default)]
+    pub replace: Vec<Replacement>,
+}
+
 /// The family file that stands in the source.
 #[derive(Drop, Deserialize)]
 #[serde(deny_unknown_fields)]
@@ -34,6 +45,8 @@ pub struct Input {
     /// What changes in it, in this order.
     #[serde(default)]
     pub replace: Vec<Replacement>,
+    /// The written text behind it.
+    pub written: Option<Behind>,
     /// What is added at its end.
     pub end: Option<String>,
     /// How long it is then: it is filled up by `#`, or cut.

@@ -20,12 +20,24 @@ fn replaced(alloc: Global, bytes: &[u8], replacement: &Replacement) -> Result<Ve
     )
 }
 
-/// The bytes of the file, with what changes in it.
-pub fn bytes_of<R: Files + AllocGlobal>(rt: &R, input: &Input) -> Result<Vec<u8>> {
-    let name = input.name.as_str();
+// The bytes of the file of this name, with what changes in it.
+fn bytes_with<R: Files + AllocGlobal>(
+    rt: &R,
+    name: &str,
+    replacements: &[Replacement],
+) -> Result<Vec<u8>> {
     let mut bytes = fs::read(rt, name).with_context(|| name)?;
-    for replacement in &input.replace {
+    for replacement in replacements {
         bytes = replaced(rt.alloc(), &bytes, replacement)?;
+    }
+    Ok(bytes)
+}
+
+/// The bytes of the file, with what changes in it and what stands behind it.
+pub fn bytes_of<R: Files + AllocGlobal>(rt: &R, input: &Input) -> Result<Vec<u8>> {
+    let mut bytes = bytes_with(rt, input.name.as_str(), &input.replace)?;
+    if let Some(written) = &input.written {
+        bytes.extend_from_slice(&bytes_with(rt, written.name.as_str(), &written.replace)?)?;
     }
     if let Some(end) = &input.end {
         bytes.extend_from_slice(end.as_bytes())?;

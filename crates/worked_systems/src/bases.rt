@@ -1,6 +1,3 @@
-use crate::fixtures::{
-    BUBBLE, BUBBLE_SYSTEM, PLANE, PLANE_SYSTEM, TADPOLE, TADPOLE_SYSTEM, family_of,
-};
 use family::Family;
 use ibp_base::List;
 use sector_lattice::Sector;
@@ -8,6 +5,9 @@ use sector_module::sector_basis;
 use std::alloc::Global;
 use std::process::Abort;
 use system_text::{SectorBlock, print_block};
+use worked_texts::{
+    BUBBLE, BUBBLE_SYSTEM, PLANE, PLANE_SYSTEM, TADPOLE, TADPOLE_SYSTEM, family_of,
+};
 
 // The block of the basis of a sector.
 fn block_of(rt: &impl Abort, alloc: Global, family: &Family, number: u16) -> List<u8> {
@@ -38,7 +38,7 @@ fn a_basis_is_the_block_of_its_sector_in_the_system(rt: HostRuntime) {
         (PLANE, PLANE_SYSTEM, 1, "sector 1 ", "relations 2"),
     ];
     for (file, text, number, first, end) in rows {
-        let family = family_of(&rt, rt.alloc(), file);
+        let family = family_of(rt.alloc(), file).expect(&rt, "a family");
         let block = block_of(&rt, rt.alloc(), &family, number);
         let lines = lines_of(&rt, text, first, end);
         assert_eq!(rt; block.as_slice(), lines.as_bytes(), "at {first}");

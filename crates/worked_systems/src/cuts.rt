@@ -1,6 +1,5 @@
 ghost use Rattle.std.specs.Prelude.{◌≡◌, ◌^◌};
 
-use crate::fixtures::{BUBBLE, QUAD, QUAD_SYSTEM, family_of};
 use cut_family::{CutAnswer, CutFault, cut, lift};
 use family::Family;
 use neat_system::run_plain;
@@ -9,6 +8,7 @@ use std::alloc::Global;
 use std::process::Abort;
 use std::test::Fail;
 use system_text::print_system;
+use worked_texts::{BUBBLE, QUAD, QUAD_SYSTEM, family_of};
 
 const CUT_BUBBLE: &str = "neatibp-system 1
 family bubble
@@ -57,7 +57,7 @@ fn the_systems_on_cuts(rt: HostRuntime) -> Result<(), Fail> {
     let alloc = rt.alloc();
     let rows = [(BUBBLE, 2, CUT_BUBBLE), (QUAD, 0, QUAD_SYSTEM)];
     for (file, number, text) in rows {
-        let family = family_of(&rt, alloc, file);
+        let family = family_of(alloc, file).expect(&rt, "a family");
         let on_cut = on_cut(&rt, alloc, &family, number)
             .ok()
             .ok_or("a cut family")?;
@@ -77,7 +77,7 @@ fn the_faults_of_cuts(rt: HostRuntime) -> Result<(), Fail> {
         (CUT_PLANE, 1, CutFault::Zero),
     ];
     for (file, number, fault) in rows {
-        let family = family_of(&rt, alloc, file);
+        let family = family_of(alloc, file).expect(&rt, "a family");
         let answer = on_cut(&rt, alloc, &family, number).err();
         assert_eq!(rt; answer, Some(CutAnswer::No(fault)));
     }

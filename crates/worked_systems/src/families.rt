@@ -1,6 +1,6 @@
-use crate::fixtures::family_of;
 use family_file::drill_family;
 use sector_lattice::Sector;
+use worked_texts::family_of;
 
 // The tadpole with caps of its own for sector 1.
 const CAPPED: &str = r#"version = 2
@@ -16,7 +16,7 @@ sectors = [{ sector = [1], dots = 1, rank = 0 }]
 
 #[test]
 fn a_sector_has_the_caps_of_its_entry_and_else_the_general_ones(rt: HostRuntime) {
-    let family = family_of(&rt, rt.alloc(), CAPPED);
+    let family = family_of(rt.alloc(), CAPPED).expect(&rt, "a family");
     assert!(rt; family.caps_of(Sector(1)) == (1, 0));
     assert!(rt; family.caps_of(Sector(0)) == (5, 5));
 }
@@ -46,5 +46,5 @@ rank_cap = 2
 fn the_family_of_a_drill_is_that_of_its_file(rt: HostRuntime) {
     let alloc = rt.alloc();
     let drill = drill_family(alloc, 7).ok().expect(&rt, "memory");
-    assert!(rt; drill == family_of(&rt, alloc, DRILL_7));
+    assert!(rt; drill == family_of(alloc, DRILL_7).expect(&rt, "a family"));
 }

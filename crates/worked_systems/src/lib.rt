@@ -10,15 +10,9 @@ mod cuts;
 #[cfg(test)]
 mod families;
 #[cfg(test)]
-mod fixtures;
-#[cfg(test)]
 mod members;
 #[cfg(test)]
 mod polynomials;
-#[cfg(test)]
-mod relays;
-#[cfg(test)]
-mod scripts;
 #[cfg(test)]
 mod shared;
 #[cfg(test)]

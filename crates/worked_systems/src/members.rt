@@ -2,7 +2,6 @@ ghost use Rattle.std.specs.Prelude.{IfOk};
 ghost use Rattle.mono_order.specs.declared.limits.TheConstants.{RUN_DEGREE};
 ghost use Rattle.family.specs.Shapes.{IsField};
 
-use crate::fixtures::{BOX, BUBBLE, PLANE, QUAD, TADPOLE, family_of};
 use family::{Family, StrippedField};
 use family_file::{Need, read_family};
 use sector_lattice::Sector;
@@ -11,6 +10,7 @@ use sparse_poly::copy_polynomials;
 use std::alloc::Global;
 use std::process::Abort;
 use std::test::Fail;
+use worked_texts::{BOX, BUBBLE, PLANE, QUAD, TADPOLE, family_of};
 
 // Whether each field of the basis of a sector is in the sector's module.
 fn has_members(rt: &impl Abort, alloc: Global, family: &Family, number: u16) -> bool {
@@ -30,7 +30,7 @@ fn has_members(rt: &impl Abort, alloc: Global, family: &Family, number: u16) -> 
 #[test]
 fn each_field_of_a_basis_is_in_the_module_of_its_sector(rt: HostRuntime) {
     for file in [TADPOLE, BUBBLE, PLANE, QUAD, BOX] {
-        let family = family_of(&rt, rt.alloc(), file);
+        let family = family_of(rt.alloc(), file).expect(&rt, "a family");
         let sectors: u16 = 1 << family.n;
         for number in 0..sectors {
             assert!(rt;

@@ -2,12 +2,13 @@ use commands::{Status, status_text};
 use cut_family::CutFault;
 use family_file::FileFault;
 use sector_lattice::Sector;
+use system_check::CheckFault;
 
 const USAGE: &str =
-    "usage: neatibp identity | basis N | plain | system --workers W | drill N | meet N | cut N | fold";
+    "usage: neatibp identity | basis N | plain | system --workers W | drill N | check | meet N | cut N | fold";
 
 // Each status with its exit status and its message.
-const STATUSES: [(Status, u8, &str); 14] = [
+const STATUSES: [(Status, u8, &str); 22] = [
     (Status::Done, 0, ""),
     (Status::Usage, 2, USAGE),
     (Status::ReadFault, 3, "read fault"),
@@ -23,6 +24,44 @@ const STATUSES: [(Status, u8, &str); 14] = [
     ),
     (Status::WriteFault, 9, "write fault"),
     (Status::NoMemory, 10, "no memory"),
+    (
+        Status::CheckedNo(CheckFault::TooLong),
+        11,
+        "checked no: too long",
+    ),
+    (
+        Status::CheckedNo(CheckFault::BadText(4294967295)),
+        11,
+        "checked no: text line 4294967295",
+    ),
+    (
+        Status::CheckedNo(CheckFault::BadName),
+        11,
+        "checked no: name",
+    ),
+    (
+        Status::CheckedNo(CheckFault::BadField {
+            sector: Sector(4095),
+            field: 4294967295,
+        }),
+        11,
+        "checked no: field 4294967295 of sector 4095",
+    ),
+    (
+        Status::CheckedNo(CheckFault::BadRelation(1)),
+        11,
+        "checked no: relation 1",
+    ),
+    (
+        Status::CheckedNo(CheckFault::BadTargets),
+        11,
+        "checked no: targets",
+    ),
+    (
+        Status::CheckedNo(CheckFault::BadReduction(20)),
+        11,
+        "checked no: reduction 20",
+    ),
     (Status::Cut(CutFault::All), 12, "cut fault all"),
     (Status::Cut(CutFault::Zero), 12, "cut fault zero"),
     (
@@ -30,6 +69,7 @@ const STATUSES: [(Status, u8, &str); 14] = [
         12,
         "cut fault target 1000",
     ),
+    (Status::NotSymmetric(64), 13, "not symmetric 64"),
 ];
 
 #[test]

@@ -1,10 +1,10 @@
-use crate::fixtures::{
-    BUBBLE, BUBBLE_SYSTEM, PLANE, PLANE_SYSTEM, QUAD, QUAD_SYSTEM, TADPOLE, TADPOLE_SYSTEM,
-    family_of,
-};
 use neat_system::run_plain;
 use std::test::Fail;
 use system_text::{print_summary, print_system};
+use worked_texts::{
+    BUBBLE, BUBBLE_SYSTEM, PLANE, PLANE_SYSTEM, QUAD, QUAD_SYSTEM, TADPOLE, TADPOLE_SYSTEM,
+    family_of,
+};
 
 #[test]
 fn the_systems_of_families(rt: HostRuntime) -> Result<(), Fail> {
@@ -16,7 +16,7 @@ fn the_systems_of_families(rt: HostRuntime) -> Result<(), Fail> {
         (QUAD, QUAD_SYSTEM),
     ];
     for (file, text) in rows {
-        let family = family_of(&rt, alloc, file);
+        let family = family_of(alloc, file).expect(&rt, "a family");
         let system = run_plain(alloc, &family).ok().ok_or("a system")?;
         assert_eq!(rt; print_system(alloc, &system)?.as_slice(), text.as_bytes());
     }
@@ -51,7 +51,7 @@ const SUMMARIES: [(u32, &str, &str); 4] = [
 fn the_summaries_of_systems(rt: HostRuntime) -> Result<(), Fail> {
     let alloc = rt.alloc();
     for (number, file, text) in SUMMARIES {
-        let family = family_of(&rt, alloc, file);
+        let family = family_of(alloc, file).expect(&rt, "a family");
         let system = run_plain(alloc, &family).ok().ok_or("a system")?;
         assert_eq!(rt;
             print_summary(alloc, number, &system)?.as_slice(),

@@ -1,5 +1,9 @@
-//! Family files, and what is written of them, for the crates of worked calls.
+//! Family files, what is written of them, and what is made of them, for the crates of worked calls.
 #![tactic(auto)]
+
+mod fixtures;
+
+pub use fixtures::{closes, family_of, integral, is_printed, plan_of, worked};
 
 /// The massive tadpole with a probe.
 pub const TADPOLE: &str = r#"version = 1

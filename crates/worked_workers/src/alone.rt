@@ -1,18 +1,18 @@
 // The main thread finishes what workers left.
-use crate::fixtures::{PLANE, QUAD, QUAD_SYSTEM, closes, plan_of, worked};
 use neat_system::opened;
 use neat_workers::finish_alone;
 use relay_core::{Event, RelayState, Taken};
 use sector_job::{Plan, SectorResult};
 use std::alloc::Global;
 use std::process::Abort;
+use worked_texts::{PLANE, QUAD, QUAD_SYSTEM, closes, plan_of, worked};
 
 // A relay of the quad in which the first worker holds sector 1, and has posted its tail.
 fn posted(rt: &impl Abort, alloc: Global, plan: &Plan) -> RelayState<SectorResult> {
     let mut relay = opened(alloc, plan).ok().expect(rt, "memory");
     match relay.take(1) {
         Ok(Taken::Job(job)) => {
-            let piece = worked(rt, alloc, plan, &job);
+            let piece = worked(alloc, plan, &job).expect(rt, "a result");
             assert!(rt; relay.post(1, &piece, 0, 1) == Ok(()));
         }
         _ => panic!(rt; "no job"),
@@ -30,20 +30,20 @@ fn events_of(rt: &impl Abort, alloc: Global, relay: &RelayState<SectorResult>) -
 #[test]
 fn a_relay_of_the_plan_goes_on(rt: HostRuntime) {
     let alloc = rt.alloc();
-    let plan = plan_of(&rt, alloc, QUAD);
+    let plan = plan_of(alloc, QUAD).expect(&rt, "memory");
     let relay = posted(&rt, alloc, &plan);
     let before = events_of(&rt, alloc, &relay);
     let done = finish_alone(alloc, &plan, relay).ok().expect(&rt, "memory");
     assert!(rt; done.journal().starts_with(&before));
-    assert!(rt; closes(&rt, alloc, &done, QUAD_SYSTEM));
+    assert!(rt; closes(alloc, &done, QUAD_SYSTEM));
 }
 
 #[test]
 fn a_relay_of_another_plan_is_left(rt: HostRuntime) {
     let alloc = rt.alloc();
-    let plan = plan_of(&rt, alloc, QUAD);
-    let other = opened(alloc, &plan_of(&rt, alloc, PLANE));
+    let plan = plan_of(alloc, QUAD).expect(&rt, "memory");
+    let other = opened(alloc, &plan_of(alloc, PLANE).expect(&rt, "memory"));
     let other = other.ok().expect(&rt, "memory");
     let done = finish_alone(alloc, &plan, other).ok().expect(&rt, "memory");
-    assert!(rt; closes(&rt, alloc, &done, QUAD_SYSTEM));
+    assert!(rt; closes(alloc, &done, QUAD_SYSTEM));
 }

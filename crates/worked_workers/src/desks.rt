@@ -2,10 +2,9 @@
 ghost use Rattle.std.specs.Prelude.{◌≡◌};
 ghost use Rattle.neat_workers.specs.Seats.{KeepsParts};
 
-use crate::fixtures::{QUAD, QUAD_SYSTEM, closes, plan_of, worked};
 use neat_system::opened;
 use neat_workers::finish_alone;
-use relay_core::{RelayState, Taken};
+use relay_core::{Job, RelayState, Taken};
 use relay_desk::{Desk, Opened, Seat};
 use sector_job::{Plan, SectorResult};
 use sector_lattice::Sector;
@@ -15,6 +14,22 @@ use std::process::Abort;
 use std::sync::Wait;
 use std::sync::ledger::{Blank, Ledger};
 use std::test::*;
+use worked_texts::{QUAD, QUAD_SYSTEM, closes, plan_of, worked};
+
+// The next job that the desk hands out.
+fn next_job<L: Ledger, C: Ledger, R: Wait + Abort>(
+    rt: &R,
+    desk: &Desk<SectorResult, L, C>,
+    seat: &mut Seat<L, C>,
+) -> Job
+    ensures { KeepsParts seat.old seat.new }
+{
+    let taken = desk.locked.lock(rt).take(seat).ok().expect(rt, "memory");
+    match taken {
+        Taken::Job(job) => job,
+        Taken::NotYet | Taken::Closed => panic!(rt; "no job"),
+    }
+}
 
 // The result of the next job that the desk hands out, which is of this sector.
 fn next_result<L: Ledger, C: Ledger, R: Wait + Abort>(
@@ -27,14 +42,9 @@ fn next_result<L: Ledger, C: Ledger, R: Wait + Abort>(
 ) -> SectorResult
     ensures { KeepsParts seat.old seat.new }
 {
-    let taken = desk.locked.lock(rt).take(seat).ok().expect(rt, "memory");
-    match taken {
-        Taken::Job(job) => {
-            assert!(rt; job.sector == Sector(number), "another sector");
-            worked(rt, alloc, plan, &job)
-        }
-        Taken::NotYet | Taken::Closed => panic!(rt; "no job"),
-    }
+    let job = next_job(rt, desk, seat);
+    assert!(rt; job.sector == Sector(number), "another sector");
+    worked(alloc, plan, &job).expect(rt, "a result")
 }
 
 // While the first seat holds sector 1 the second one must wait, and cannot give the sector back.
@@ -131,7 +141,7 @@ fn count_of<L: Ledger, C: Ledger, R: Wait + Abort>(
     requires finishes { (finishes.name ≡ L.name) × (finishes.parts ≡ L.parts) × (L.parts ≡ 2) }
     requires closings { (closings.name ≡ C.name) × (closings.parts ≡ C.parts) × (C.parts ≡ 2) }
 {
-    let plan = plan_of(rt, alloc, QUAD);
+    let plan = plan_of(alloc, QUAD).expect(rt, "memory");
     let relay = opened(alloc, &plan).ok().expect(rt, "memory");
     let desk = Desk::<SectorResult, L, C>::open(alloc, relay, 2, finishes, closings);
     let Opened { desk, mut seats } = desk.ok().expect(rt, "memory");
@@ -188,7 +198,7 @@ fn given_back<L: Ledger, C: Ledger, R: Wait + Abort>(
 #[test]
 fn the_main_thread_works_what_was_given_back(rt: HostRuntime) {
     let alloc = rt.alloc();
-    let plan = plan_of(&rt, alloc, QUAD);
+    let plan = plan_of(alloc, QUAD).expect(&rt, "memory");
     let (relay, count) = given_back::<Brand, Brand, HostRuntime>(
         &rt,
         alloc,
@@ -198,5 +208,5 @@ fn the_main_thread_works_what_was_given_back(rt: HostRuntime) {
     );
     assert_eq!(rt; count, 0);
     let done = finish_alone(alloc, &plan, relay).ok().expect(&rt, "memory");
-    assert!(rt; closes(&rt, alloc, &done, QUAD_SYSTEM));
+    assert!(rt; closes(alloc, &done, QUAD_SYSTEM));
 }

@@ -1,5 +1,5 @@
-//! Worked calls with several workers: the desk by hand, the main thread after them, and workers at once. It has tests
-//! alone.
+//! Worked calls with several workers: the desk by hand, the main thread after them, workers at once, and parts at once.
+//! It has tests alone.
 #![tactic(auto)]
 
 #[cfg(test)]
@@ -7,8 +7,10 @@ mod alone;
 #[cfg(test)]
 mod desks;
 #[cfg(test)]
-mod fixtures;
-#[cfg(test)]
 mod gates;
+#[cfg(test)]
+mod posts;
+#[cfg(test)]
+mod wide;
 #[cfg(test)]
 mod workers;

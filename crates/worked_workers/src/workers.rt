@@ -1,19 +1,19 @@
 // Several workers at once.
-use crate::fixtures::{PLANE, PLANE_SYSTEM, QUAD, QUAD_SYSTEM, family_of, is_printed};
 use crate::gates::PairGate;
 use commands::Status;
 use ibp_outside::{MemorySink, MemorySource, OpenGate};
 use neat_workers::run_workers;
 use std::test::Fail;
 use top_call::run_tool;
+use worked_texts::{PLANE, PLANE_SYSTEM, QUAD, QUAD_SYSTEM, family_of, is_printed};
 
 #[test]
 fn two_workers_write_the_system_of_the_quad(rt: HostRuntime) {
     let alloc = rt.alloc();
-    let family = family_of(&rt, alloc, QUAD);
+    let family = family_of(alloc, QUAD).expect(&rt, "a family");
     let system = run_workers(&rt, alloc, &family, 2, &OpenGate);
     let system = system.ok().expect(&rt, "a system");
-    assert!(rt; is_printed(&rt, alloc, &system, QUAD_SYSTEM));
+    assert!(rt; is_printed(alloc, &system, QUAD_SYSTEM));
 }
 
 #[test]

@@ -1,4 +1,4 @@
-use Rattle.commands.proofs.Lists.{identity_is, plain_is, basis_is, meet_is, cut_is, fold_is, drill_is, reads_lists}
+use Rattle.commands.proofs.Lists.{identity_is, plain_is, check_is, basis_is, meet_is, cut_is, fold_is, drill_is, reads_lists}
 use Rattle.commands.proofs.laws.lists_are_commands.Goals as goal
 
 pub returns-clause-identity : goal.returns-clause-identity
@@ -15,6 +15,9 @@ returns-clause-meet c = meet_is
 
 pub returns-clause-cut : goal.returns-clause-cut
 returns-clause-cut c = cut_is
+
+pub returns-clause-check : goal.returns-clause-check
+returns-clause-check c = check_is
 
 pub returns-clause-fold : goal.returns-clause-fold
 returns-clause-fold c = fold_is

@@ -1,4 +1,4 @@
-use Rattle.std.proofs.Common.{◌≡◌, ap, ◌∙◌, inr, Err}
+use Rattle.std.proofs.Common.{◌≡◌, ap, ◌∙◌, inl, inr, refl, Err}
 use Rattle.std.specs.Prelude.{IsOkAnd, ◌⊎◌}
 use Rattle.std.proofs.lemmas.Bool.{false≢true}
 use Rattle.ibp_outside.specs.Causes.{Rose}
@@ -58,8 +58,8 @@ pub returns-in-Err-input_of-clause-refused : goal.returns-in-Err-input_of-clause
 returns-in-Err-input_of-clause-refused g c command status is =
     of_any (λ given. IsRefused command given status → IsAnswered status c.from-in-Err-input_of.result) (λ given refused. rw c.from-in-Err-input_of.ensures (unread_answers c.in-Err-input_of.fault status)) command (g.S.Source.left c.args.source.now)
 
-pub text_of-requires : goal.text_of-requires
-text_of-requires g c = within_drills _ c.in-Ok.command c.in-Ok.ensures.command
+pub text_of-requires-clause-number : goal.text_of-requires-clause-number
+text_of-requires-clause-number g c = within_drills _ c.in-Ok.command c.in-Ok.ensures.command
 
 pub returns-in-Err-text_of-clause-read_through : goal.returns-in-Err-text_of-clause-read_through
 returns-in-Err-text_of-clause-read_through g c command is reads reached = through _ c.in-Ok.command _ _ c.in-Ok-input_of.bytes.items c.in-Ok.ensures.command c.in-Ok-input_of.ensures.bytes command is reads
@@ -111,3 +111,17 @@ returns-in-Err-input_of-clause-no_read_fault g c = unread _ c.in-Ok.command _ c.
 
 pub returns-in-Err-clause-read_through : goal.returns-in-Err-clause-read_through
 returns-in-Err-clause-read_through g c command is reads reached = absurd (words_unreached c.in-Err.fault (rw c.from.ensures at reached))
+
+pub returns-in-Ok-write_text-clause-complete : goal.returns-in-Ok-write_text-clause-complete
+returns-in-Ok-write_text-clause-complete g c command is =
+    let read_faults = g.S.Source.faults in
+    let write_faults = g.K.Sink.faults in
+    of_any (λ given. IsOkAnd given (Accepts command) → ¬ Rose (read_faults c.args.source.now) (read_faults c.input_of.new.source) → ¬ Rose (write_faults c.args.sink.now) (write_faults c.write_text.new.sink) → (Done ≡ Done) ⊎ (Done ≡ NoMemory))
+    (λ given meets read write. inl refl) command (g.S.Source.left c.args.source.now)
+
+pub returns-clause-complete : goal.returns-clause-complete
+returns-clause-complete g c command is =
+    let read_faults = g.S.Source.faults in
+    let write_faults = g.K.Sink.faults in
+    of_any (λ given. IsOkAnd given (Accepts command) → ¬ Rose (read_faults c.args.source.now) (read_faults c.input_of.new.source) → ¬ Rose (write_faults c.args.sink.now) (write_faults c.write_text.new.sink) → (WriteFault ≡ Done) ⊎ (WriteFault ≡ NoMemory))
+    (λ given meets read write. absurd (write c.in-Err-write_text.ensures.cause.failed)) command (g.S.Source.left c.args.source.now)

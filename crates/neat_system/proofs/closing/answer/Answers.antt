@@ -12,20 +12,20 @@ use Rattle.neat_system.proofs.Lengths.{labels_match, few_candidates, few_pieces}
 use Rattle.neat_system.proofs.closing.answer.Goals as goal
 
 pub returns-in-Some : goal.returns-in-Some
-returns-in-Some c =
+returns-in-Some g c =
     let state = c.args.state.now in
     let closed = closed_with state c.pieces.result.now (c.is_closed.ensures.whole (c.is_closed.ensures.all_done.1 c.requires.closed)) c.requires.closed c.pieces.ensures.done c.pieces.ensures.ordered c.pieces.ensures.reached c.pieces.ensures.plans c.pieces.ensures.books in
     fault_answers (family_view state.plan) state.progress.books c.pieces.result.now closed state.plan.limits c.in-Some.fault c.in-Some.ensures
 
 pub gather-requires-clause-family : goal.gather-requires-clause-family
-gather-requires-clause-family c =
+gather-requires-clause-family g c =
     let state = c.args.state.now in
     let closed = closed_with state c.pieces-2.result.now (c.is_closed.ensures.whole (c.is_closed.ensures.all_done.1 c.requires.closed)) c.requires.closed c.pieces-2.ensures.done c.pieces-2.ensures.ordered c.pieces-2.ensures.reached c.pieces-2.ensures.plans c.pieces-2.ensures.books in
     let same : family_view c.family-family.result.now ≡ family_view state.plan = ap family_view (c.family-family.ensures ∙ c.plan.ensures.value) in
     λ k d inside. closed.plans k d inside ∙ sym same
 
 pub system_of-requires-clause-few : goal.system_of-requires-clause-few
-system_of-requires-clause-few c =
+system_of-requires-clause-few g c =
     let family = c.family-family.result.now in
     let gathers = c.in_ok-gathered.ensures in
     let powers : c.args.state.now.n ≡ family.n = c.plan.ensures.powers ∙ ap (λ p. (opening_of p).n) (sym c.family-family.ensures) in
@@ -35,13 +35,13 @@ system_of-requires-clause-few c =
     omega (arith, pieces, few, same)
 
 pub system_of-requires-clause-labels : goal.system_of-requires-clause-labels
-system_of-requires-clause-labels c =
+system_of-requires-clause-labels g c =
     let family = c.family-family.result.now in
     let gathers = c.in_ok-gathered.ensures in
     sym (length-map c.in_ok-gathered.gathered.labels.items _) ∙ ap length gathers.labels ∙ labels_match (family_view family) c.pieces-2.result.now gathers.works gathers.are_works ∙ ap length (sym gathers.candidates)
 
 pub returns : goal.returns
-returns c =
+returns g c =
     let state = c.args.state.now in
     let gathered = c.in_ok-gathered.gathered in
     let closed = closed_with state c.pieces-2.result.now (c.is_closed.ensures.whole (c.is_closed.ensures.all_done.1 c.requires.closed)) c.requires.closed c.pieces-2.ensures.done c.pieces-2.ensures.ordered c.pieces-2.ensures.reached c.pieces-2.ensures.plans c.pieces-2.ensures.books in

@@ -10,7 +10,7 @@ use Rattle.target_rows.proofs.PickedPlaces.{places_within, few_places, as_many_f
 use Rattle.neat_system.proofs.closing.system_of.Goals as goal
 
 pub relations_at-requires-clause-places : goal.relations_at-requires-clause-places
-relations_at-requires-clause-places c =
+relations_at-requires-clause-places g c =
     let candidates = c.args.gathered.candidates.items in
     let picked = c.in_ok-picked.picked in
     let pick = c.in_ok-picked.ensures.pick in
@@ -20,25 +20,25 @@ relations_at-requires-clause-places c =
     (subst (λ (rows : List IntegralSum). All (λ place. place < length rows) picked.written) same within)
 
 pub reductions_of-requires-clause-few : goal.reductions_of-requires-clause-few
-reductions_of-requires-clause-few c =
+reductions_of-requires-clause-few g c =
     let picked = c.in_ok-picked.picked in
     let few = few_places integral_cmp c.deref.result.now c.deref-2.result.now picked.written picked.reductions picked.weights c.in_ok-picked.ensures.pick in
     let same : length c.deref.result.now ≡ length c.args.gathered.candidates.items = ap length c.deref.ensures.value in
     omega (arith, few, same, c.requires.few)
 
 pub reductions_of-requires-clause-listed : goal.reductions_of-requires-clause-listed
-reductions_of-requires-clause-listed c =
+reductions_of-requires-clause-listed g c =
     let picked = c.in_ok-picked.picked in
     names_written integral_cmp c.deref.result.now c.deref-2.result.now picked.written picked.reductions picked.weights c.in_ok-picked.ensures.pick
 
 pub reductions_of-requires-clause-forms : goal.reductions_of-requires-clause-forms
-reductions_of-requires-clause-forms c =
+reductions_of-requires-clause-forms g c =
     let picked = c.in_ok-picked.picked in
     as_many_forms integral_cmp c.deref.result.now c.deref-2.result.now picked.reductions picked.weights c.in_ok-picked.ensures.pick.answers
     ∙ ap length (c.deref-2.ensures.value ∙ c.in_ok-targets.ensures) ∙ length-map c.args.family.now.targets (declared_row (family_view c.args.family.now)) ∙ ap length (sym c.as_slice-2.ensures)
 
 pub reductions_of-requires-clause-weights : goal.reductions_of-requires-clause-weights
-reductions_of-requires-clause-weights c =
+reductions_of-requires-clause-weights g c =
     let picked = c.in_ok-picked.picked in
     as_many_weights integral_cmp c.deref.result.now c.deref-2.result.now picked.reductions picked.weights c.in_ok-picked.ensures.pick.answers
     ∙ ap length (c.deref-2.ensures.value ∙ c.in_ok-targets.ensures) ∙ length-map c.args.family.now.targets (declared_row (family_view c.args.family.now)) ∙ ap length (sym c.as_slice-2.ensures)

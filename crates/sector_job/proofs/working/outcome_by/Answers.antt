@@ -9,7 +9,7 @@ use Rattle.sector_job.proofs.Steps.{fits_below, is_over, all_powers, few_rows, w
 use Rattle.sector_job.proofs.working.outcome_by.Goals as goal
 
 pub are_too_many-requires : goal.are_too_many-requires
-are_too_many-requires c = record {
+are_too_many-requires g c = record {
   is_sector = record {
     some = c.args.family.now.limits.some_variables;
     few = c.args.family.now.limits.few_variables;
@@ -20,7 +20,7 @@ are_too_many-requires c = record {
 }
 
 pub seeds-requires : goal.seeds-requires
-seeds-requires c = record {
+seeds-requires g c = record {
   is_sector = record {
     some = c.args.family.now.limits.some_variables;
     few = c.args.family.now.limits.few_variables;
@@ -31,7 +31,7 @@ seeds-requires c = record {
 }
 
 pub returns-then-are_too_many : goal.returns-then-are_too_many
-returns-then-are_too_many c =
+returns-then-are_too_many g c =
     let family = family_view c.args.family.now in
     let generators = c.args.generators in
     let dots = c.most_dots-dots.result in
@@ -45,14 +45,14 @@ returns-then-are_too_many c =
     (c.most_dots-dots.ensures.value ∙ ap (λ s. dots_bound family s.0 c.args.targets.now) c.sector-sector.ensures)
     (c.most_rank-rank.ensures.value ∙ ap (λ s. rank_bound family s.0 c.args.targets.now) c.sector-sector.ensures) here
 
-pub all_candidates-requires-clause-powers : goal.all_candidates-requires-clause-powers
-all_candidates-requires-clause-powers c =
+pub list-requires-clause-powers : goal.list-requires-clause-powers
+list-requires-clause-powers g c =
     subst (λ (seeds : List Integral). All (ArePowers c.args.family.now.n) seeds) (sym c.as_slice.ensures)
     (all_powers c.sector-sector.result.0 c.args.family.now.n c.most_dots-dots.result c.most_rank-rank.result c.in_ok-seeds.seeds c.most_dots-dots.ensures.bound c.most_rank-rank.ensures.bound
     c.in_ok-seeds.ensures.seeds)
 
 pub tails_of-requires : goal.tails_of-requires
-tails_of-requires c =
+tails_of-requires g c =
     let family = family_view c.args.family.now in
     let within = within_budget c.are_too_many.result _ _ c.are_too_many.ensures c.if-are_too_many.false in
     let rows = few_rows family c.fields-fields.result.now c.as_slice.result.now c.in_ok-candidates.candidates.items _ family.budget.candidates c.in_ok-candidates.ensures

@@ -5,10 +5,10 @@ use Rattle.sector_job.proofs.Steps.{fits_below}
 use Rattle.sector_job.proofs.working.outcome_of.Goals as goal
 
 pub sector_basis-requires : goal.sector_basis-requires
-sector_basis-requires c = fits_below (family_view c.args.family.now) c.args.sector.0 c.args.targets.now c.requires
+sector_basis-requires g c = fits_below (family_view c.args.family.now) c.args.sector.0 c.args.targets.now c.requires.fits
 
 pub outcome_by-requires-clause-basis : goal.outcome_by-requires-clause-basis
-outcome_by-requires-clause-basis c =
+outcome_by-requires-clause-basis g c =
     let family = family_view c.args.family.now in
     let found = c.in-Ok.generators in
     let end = c.in-Ok.ensures.done in

@@ -1,0 +1,4 @@
+//! The systems that are written are right.
+#![tactic(auto)]
+
+pub mod laws;

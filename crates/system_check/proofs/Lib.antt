@@ -1,0 +1,10 @@
+pub mod Firsts
+pub mod Causes
+pub mod Verdicts
+pub mod Named
+pub mod Reduced
+pub mod FrontTexts
+pub mod OneTerm
+pub mod OneLine
+pub mod OneValue
+pub mod OneFault
