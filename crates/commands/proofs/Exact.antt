@@ -5,7 +5,7 @@ use Rattle.family.specs.Within.{DataWithin}
 use Rattle.commands.specs.Causes.{Given, Refuses, IsRefused, IsAnswered, Tells}
 use Rattle.commands.specs.declared.words.Command.{Command}
 use Rattle.commands.specs.declared.status.Status.{Status}
-use Rattle.commands.specs.declared.status.Status.TheVariants.{Done, Usage, ReadFault, File, NotDivisible, NotTangent, PairsSpent, DegreeOver, CandidatesOver, WriteFault, NoMemory, CheckedNo, Cut, NotSymmetric}
+use Rattle.commands.specs.declared.status.Status.TheVariants.{Done, Usage, ReadFault, File, WriteFault, NoMemory}
 use Rattle.commands.proofs.Commands.{text_accepts, not_refused, refused_once}
 
 same_fault : (x y : FileFault) → ◌≡◌ {A = Result Given FileFault} (Err x) (Err y) → x ≡ y
@@ -18,14 +18,7 @@ of_given asked given before now status (File fault) within told refused = absurd
 of_given asked given before now status ReadFault within told refused = inr (inl refl)
 of_given asked given before now status NoMemory within told refused = inr (inr refl)
 of_given asked given before now status Usage within told refused = absurd told
-of_given asked given before now status (NotDivisible i) within told refused = inl (refused_once asked given (NotDivisible i) status within told.0 refused)
-of_given asked given before now status NotTangent within told refused = inl (refused_once asked given NotTangent status within told.0 refused)
-of_given asked given before now status (CheckedNo fault) within told refused = inl (refused_once asked given (CheckedNo fault) status within told.0 refused)
-of_given asked given before now status (Cut fault) within told refused = inl (refused_once asked given (Cut fault) status within told.0 refused)
-of_given asked given before now status (NotSymmetric k) within told refused = inl (refused_once asked given (NotSymmetric k) status within told.0 refused)
-of_given asked given before now status (PairsSpent sector) within told refused = inl (refused_once asked given (PairsSpent sector) status within told.0 refused)
-of_given asked given before now status (DegreeOver sector) within told refused = inl (refused_once asked given (DegreeOver sector) status within told.0 refused)
-of_given asked given before now status (CandidatesOver sector) within told refused = inl (refused_once asked given (CandidatesOver sector) status within told.0 refused)
+of_given asked given before now status result within told refused = inl (refused_once asked given result status within told.0 refused)
 
 of_fault : (asked : Command) (fault : FileFault) (before now : Option (List ℕ)) (result : Status) → Tells asked (Err fault) before now result → IsAnswered (File fault) result
 of_fault asked fault before now Done told = absurd told.1
@@ -34,14 +27,7 @@ of_fault asked fault before now (File found) told = inl (ap File (sym (same_faul
 of_fault asked fault before now ReadFault told = inr (inl refl)
 of_fault asked fault before now NoMemory told = inr (inr refl)
 of_fault asked fault before now Usage told = absurd told
-of_fault asked fault before now (NotDivisible i) told = absurd told.0
-of_fault asked fault before now NotTangent told = absurd told.0
-of_fault asked fault before now (CheckedNo other) told = absurd told.0
-of_fault asked fault before now (Cut other) told = absurd told.0
-of_fault asked fault before now (NotSymmetric k) told = absurd told.0
-of_fault asked fault before now (PairsSpent sector) told = absurd told.0
-of_fault asked fault before now (DegreeOver sector) told = absurd told.0
-of_fault asked fault before now (CandidatesOver sector) told = absurd told.0
+of_fault asked fault before now result told = absurd told.0
 
 pub answered : (asked : Command) (given : Result Given FileFault) → ((g : Given) → given ≡ Ok g → DataWithin g.family) → (before now : Option (List ℕ)) (status result : Status) → Tells asked given before now result → IsRefused asked given status → IsAnswered status result
 answered asked (Err fault) limits before now status result told refused = subst (λ (s : Status). IsAnswered s result) (sym refused) (of_fault asked fault before now result told)

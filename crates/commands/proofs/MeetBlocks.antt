@@ -73,10 +73,4 @@ answers_meet family number tangent is_tangent sectors are (Ok text) blocks met r
 answers_meet family number tangent is_tangent sectors are (Err refusal.NoMemory) blocks met refused = tt
 answers_meet family number tangent is_tangent sectors are (Err (refusal.PairsSpent sector)) blocks met refused = inr (record { tangent = tangent; is_tangent = is_tangent; sectors = sectors; are_sectors = are; at = refused })
 answers_meet family number tangent is_tangent sectors are (Err (refusal.DegreeOver sector)) blocks met refused = inr (record { tangent = tangent; is_tangent = is_tangent; sectors = sectors; are_sectors = are; at = refused })
-answers_meet family number tangent is_tangent sectors are (Err (refusal.File fault)) blocks met refused = absurd refused
-answers_meet family number tangent is_tangent sectors are (Err (refusal.NotDivisible i)) blocks met refused = absurd refused
-answers_meet family number tangent is_tangent sectors are (Err refusal.NotTangent) blocks met refused = absurd refused
-answers_meet family number tangent is_tangent sectors are (Err (refusal.Cut fault)) blocks met refused = absurd refused
-answers_meet family number tangent is_tangent sectors are (Err (refusal.CheckedNo fault)) blocks met refused = absurd refused
-answers_meet family number tangent is_tangent sectors are (Err (refusal.NotSymmetric k)) blocks met refused = absurd refused
-answers_meet family number tangent is_tangent sectors are (Err (refusal.CandidatesOver sector)) blocks met refused = absurd refused
+answers_meet family number tangent is_tangent sectors are (Err other) blocks met refused = absurd refused

@@ -8,7 +8,7 @@ use Rattle.system_check.specs.declared.fault.CheckFault.{CheckFault}
 use Rattle.system_check.proofs.OneFault.{one_fault, right_has_no_fault}
 use Rattle.commands.specs.Check.{RefusesCheck}
 use Rattle.commands.specs.declared.status.Status.{Status}
-use Rattle.commands.specs.declared.status.Status.TheVariants.{Done, Usage, ReadFault, File, NotDivisible, NotTangent, PairsSpent, DegreeOver, CandidatesOver, WriteFault, NoMemory, CheckedNo, Cut, NotSymmetric}
+use Rattle.commands.specs.declared.status.Status.TheVariants.{CheckedNo}
 
 pub check_not_refused : (family : FamilyData) (written : List ℕ) (status : Status) → DataWithin family → IsRight family written → RefusesCheck family written status → ⊥
 check_not_refused family written (CheckedNo fault) within right refused = right_has_no_fault family written fault within.some_variables within.few_variables right refused

@@ -20,7 +20,7 @@ use Rattle.commands.specs.Answers.{IsAnswer}
 use Rattle.commands.specs.Cut.{HasCutSystem, IsCutFault, IsCutOf, IsCutText, RefusesCut}
 use Rattle.commands.specs.Refusals.{of_lifted_fault}
 use Rattle.commands.specs.declared.status.Status.{Status}
-use Rattle.commands.specs.declared.status.Status.TheVariants.{Done, Usage, ReadFault, File, NotDivisible, NotTangent, PairsSpent, DegreeOver, CandidatesOver, WriteFault, NoMemory, CheckedNo, Cut, NotSymmetric}
+use Rattle.commands.specs.declared.status.Status.TheVariants.{PairsSpent, DegreeOver, CandidatesOver, Cut}
 use Rattle.commands.proofs.OfPlain.{same_sector}
 
 within_cut : (family cut : FamilyData) (number : ℕ) → DataWithin family → IsCutOf family number cut → DataWithin cut
@@ -49,100 +49,46 @@ cut_or_not : (family : FamilyData) (number : ℕ) (fault : CutFault) (sector : S
 cut_or_not family number fault sector o some refused = let none = refused.is_cut.no_fault in cc
 
 pub cut_not_refused : (family : FamilyData) (number : ℕ) (status : Status) → DataWithin family → HasCutSystem family number → RefusesCut family number status → ⊥
-cut_not_refused family number Done within met refused = refused
-cut_not_refused family number Usage within met refused = refused
-cut_not_refused family number ReadFault within met refused = refused
-cut_not_refused family number (File fault) within met refused = refused
-cut_not_refused family number (NotDivisible i) within met refused = refused
-cut_not_refused family number NotTangent within met refused = refused
-cut_not_refused family number (CheckedNo reason) within met refused = refused
-cut_not_refused family number (NotSymmetric k) within met refused = refused
 cut_not_refused family number (Cut fault) within met refused = let none = met.is_cut.no_fault in cc
 cut_not_refused family number (PairsSpent sector) within met refused = system_or_fault family number sector outcome.PairsSpent within met refused
 cut_not_refused family number (DegreeOver sector) within met refused = system_or_fault family number sector outcome.DegreeOver within met refused
 cut_not_refused family number (CandidatesOver sector) within met refused = system_or_fault family number sector outcome.CandidatesOver within met refused
-cut_not_refused family number WriteFault within met refused = refused
-cut_not_refused family number NoMemory within met refused = refused
+cut_not_refused family number status within met refused = refused
 
 once_cut : (family : FamilyData) (number : ℕ) (fault : CutFault) (status : Status) → fault_of number family ≡ Some fault → RefusesCut family number status → Cut fault ≡ status
-once_cut family number fault Done one refused = absurd refused
-once_cut family number fault Usage one refused = absurd refused
-once_cut family number fault ReadFault one refused = absurd refused
-once_cut family number fault (File other) one refused = absurd refused
-once_cut family number fault (NotDivisible i) one refused = absurd refused
-once_cut family number fault NotTangent one refused = absurd refused
-once_cut family number fault (CheckedNo reason) one refused = absurd refused
-once_cut family number fault (NotSymmetric k) one refused = absurd refused
 once_cut family number fault (Cut other) one refused = ap Cut (same_Some fault other (sym one ∙ refused))
 once_cut family number fault (PairsSpent sector) one refused = absurd (cut_or_not family number fault sector outcome.PairsSpent one refused)
 once_cut family number fault (DegreeOver sector) one refused = absurd (cut_or_not family number fault sector outcome.DegreeOver one refused)
 once_cut family number fault (CandidatesOver sector) one refused = absurd (cut_or_not family number fault sector outcome.CandidatesOver one refused)
-once_cut family number fault WriteFault one refused = absurd refused
-once_cut family number fault NoMemory one refused = absurd refused
+once_cut family number fault status one refused = absurd refused
 
 once_spent : (family : FamilyData) (number : ℕ) (sector : Sector) (status : Status) → DataWithin family → IsCutFault family number sector outcome.PairsSpent → RefusesCut family number status → PairsSpent sector ≡ status
-once_spent family number sector Done within one refused = absurd refused
-once_spent family number sector Usage within one refused = absurd refused
-once_spent family number sector ReadFault within one refused = absurd refused
-once_spent family number sector (File fault) within one refused = absurd refused
-once_spent family number sector (NotDivisible i) within one refused = absurd refused
-once_spent family number sector NotTangent within one refused = absurd refused
-once_spent family number sector (CheckedNo reason) within one refused = absurd refused
-once_spent family number sector (NotSymmetric k) within one refused = absurd refused
 once_spent family number sector (Cut fault) within one refused = absurd (cut_or_not family number fault sector outcome.PairsSpent refused one)
 once_spent family number sector (PairsSpent other) within one refused = ap PairsSpent (one_cut_fault family number sector other outcome.PairsSpent outcome.PairsSpent within one refused).0
 once_spent family number sector (DegreeOver other) within one refused = absurd (let same = (one_cut_fault family number sector other outcome.PairsSpent outcome.DegreeOver within one refused).1 in cc)
 once_spent family number sector (CandidatesOver other) within one refused = absurd (let same = (one_cut_fault family number sector other outcome.PairsSpent outcome.CandidatesOver within one refused).1 in cc)
-once_spent family number sector WriteFault within one refused = absurd refused
-once_spent family number sector NoMemory within one refused = absurd refused
+once_spent family number sector status within one refused = absurd refused
 
 once_over : (family : FamilyData) (number : ℕ) (sector : Sector) (status : Status) → DataWithin family → IsCutFault family number sector outcome.DegreeOver → RefusesCut family number status → DegreeOver sector ≡ status
-once_over family number sector Done within one refused = absurd refused
-once_over family number sector Usage within one refused = absurd refused
-once_over family number sector ReadFault within one refused = absurd refused
-once_over family number sector (File fault) within one refused = absurd refused
-once_over family number sector (NotDivisible i) within one refused = absurd refused
-once_over family number sector NotTangent within one refused = absurd refused
-once_over family number sector (CheckedNo reason) within one refused = absurd refused
-once_over family number sector (NotSymmetric k) within one refused = absurd refused
 once_over family number sector (Cut fault) within one refused = absurd (cut_or_not family number fault sector outcome.DegreeOver refused one)
 once_over family number sector (PairsSpent other) within one refused = absurd (let same = (one_cut_fault family number sector other outcome.DegreeOver outcome.PairsSpent within one refused).1 in cc)
 once_over family number sector (DegreeOver other) within one refused = ap DegreeOver (one_cut_fault family number sector other outcome.DegreeOver outcome.DegreeOver within one refused).0
 once_over family number sector (CandidatesOver other) within one refused = absurd (let same = (one_cut_fault family number sector other outcome.DegreeOver outcome.CandidatesOver within one refused).1 in cc)
-once_over family number sector WriteFault within one refused = absurd refused
-once_over family number sector NoMemory within one refused = absurd refused
+once_over family number sector status within one refused = absurd refused
 
 once_many : (family : FamilyData) (number : ℕ) (sector : Sector) (status : Status) → DataWithin family → IsCutFault family number sector outcome.CandidatesOver → RefusesCut family number status → CandidatesOver sector ≡ status
-once_many family number sector Done within one refused = absurd refused
-once_many family number sector Usage within one refused = absurd refused
-once_many family number sector ReadFault within one refused = absurd refused
-once_many family number sector (File fault) within one refused = absurd refused
-once_many family number sector (NotDivisible i) within one refused = absurd refused
-once_many family number sector NotTangent within one refused = absurd refused
-once_many family number sector (CheckedNo reason) within one refused = absurd refused
-once_many family number sector (NotSymmetric k) within one refused = absurd refused
 once_many family number sector (Cut fault) within one refused = absurd (cut_or_not family number fault sector outcome.CandidatesOver refused one)
 once_many family number sector (PairsSpent other) within one refused = absurd (let same = (one_cut_fault family number sector other outcome.CandidatesOver outcome.PairsSpent within one refused).1 in cc)
 once_many family number sector (DegreeOver other) within one refused = absurd (let same = (one_cut_fault family number sector other outcome.CandidatesOver outcome.DegreeOver within one refused).1 in cc)
 once_many family number sector (CandidatesOver other) within one refused = ap CandidatesOver (one_cut_fault family number sector other outcome.CandidatesOver outcome.CandidatesOver within one refused).0
-once_many family number sector WriteFault within one refused = absurd refused
-once_many family number sector NoMemory within one refused = absurd refused
+once_many family number sector status within one refused = absurd refused
 
 pub cut_once : (family : FamilyData) (number : ℕ) (first second : Status) → DataWithin family → RefusesCut family number first → RefusesCut family number second → first ≡ second
-cut_once family number Done second within refused also = absurd refused
-cut_once family number Usage second within refused also = absurd refused
-cut_once family number ReadFault second within refused also = absurd refused
-cut_once family number (File fault) second within refused also = absurd refused
-cut_once family number (NotDivisible i) second within refused also = absurd refused
-cut_once family number NotTangent second within refused also = absurd refused
-cut_once family number (CheckedNo reason) second within refused also = absurd refused
-cut_once family number (NotSymmetric k) second within refused also = absurd refused
 cut_once family number (Cut fault) second within refused also = once_cut family number fault second refused also
 cut_once family number (PairsSpent sector) second within refused also = once_spent family number sector second within refused also
 cut_once family number (DegreeOver sector) second within refused also = once_over family number sector second within refused also
 cut_once family number (CandidatesOver sector) second within refused also = once_many family number sector second within refused also
-cut_once family number WriteFault second within refused also = absurd refused
-cut_once family number NoMemory second within refused also = absurd refused
+cut_once family number first second within refused also = absurd refused
 
 -- a fault of the cut family's system refuses the family
 pub refuses_cut : (family cut : FamilyData) (number : ℕ) (result : Result System SystemFault) (fault : SystemFault) → IsCutOf family number cut → IsAnswerFor cut result → result ≡ Err fault

@@ -17,104 +17,50 @@ use Rattle.commands.specs.Answers.{IsAnswer}
 use Rattle.commands.specs.Fold.{HasFold, IsFoldFault, IsFoldText, RefusesFold}
 use Rattle.commands.specs.Refusals.{of_fold_fault, of_system_fault}
 use Rattle.commands.specs.declared.status.Status.{Status}
-use Rattle.commands.specs.declared.status.Status.TheVariants.{Done, Usage, ReadFault, File, NotDivisible, NotTangent, PairsSpent, DegreeOver, CandidatesOver, WriteFault, NoMemory, CheckedNo, Cut, NotSymmetric}
+use Rattle.commands.specs.declared.status.Status.TheVariants.{PairsSpent, DegreeOver, CandidatesOver, NotSymmetric}
 use Rattle.commands.proofs.OfPlain.{same_sector}
 
 pub fold_not_refused : (family : FamilyData) (status : Status) → DataWithin family → HasFold family → RefusesFold family status → ⊥
-fold_not_refused family Done within met refused = refused
-fold_not_refused family Usage within met refused = refused
-fold_not_refused family ReadFault within met refused = refused
-fold_not_refused family (File fault) within met refused = refused
-fold_not_refused family (NotDivisible i) within met refused = refused
-fold_not_refused family NotTangent within met refused = refused
-fold_not_refused family (CheckedNo fault) within met refused = refused
-fold_not_refused family (Cut fault) within met refused = refused
 fold_not_refused family (NotSymmetric k) within met refused = never_broken family k met.symmetric refused
 fold_not_refused family (PairsSpent sector) within met refused = never_both family within met.system sector.0 outcome.PairsSpent refused.fault met.is_system
 fold_not_refused family (DegreeOver sector) within met refused = never_both family within met.system sector.0 outcome.DegreeOver refused.fault met.is_system
 fold_not_refused family (CandidatesOver sector) within met refused = never_both family within met.system sector.0 outcome.CandidatesOver refused.fault met.is_system
-fold_not_refused family WriteFault within met refused = refused
-fold_not_refused family NoMemory within met refused = refused
+fold_not_refused family status within met refused = refused
 
 once_spent : (family : FamilyData) (sector : Sector) (status : Status) → DataWithin family → IsFoldFault family sector.0 outcome.PairsSpent → RefusesFold family status → PairsSpent sector ≡ status
-once_spent family sector Done within one refused = absurd refused
-once_spent family sector Usage within one refused = absurd refused
-once_spent family sector ReadFault within one refused = absurd refused
-once_spent family sector (File fault) within one refused = absurd refused
-once_spent family sector (NotDivisible i) within one refused = absurd refused
-once_spent family sector NotTangent within one refused = absurd refused
-once_spent family sector (CheckedNo fault) within one refused = absurd refused
-once_spent family sector (Cut fault) within one refused = absurd refused
 once_spent family sector (NotSymmetric k) within one refused = absurd (never_broken family k one.symmetric refused)
 once_spent family sector (PairsSpent other) within one refused = ap PairsSpent (same_sector sector other (one_fault family within sector.0 other.0 outcome.PairsSpent outcome.PairsSpent one.fault refused.fault).0)
 once_spent family sector (DegreeOver other) within one refused = absurd (let same = (one_fault family within sector.0 other.0 outcome.PairsSpent outcome.DegreeOver one.fault refused.fault).1 in cc)
 once_spent family sector (CandidatesOver other) within one refused = absurd (let same = (one_fault family within sector.0 other.0 outcome.PairsSpent outcome.CandidatesOver one.fault refused.fault).1 in cc)
-once_spent family sector WriteFault within one refused = absurd refused
-once_spent family sector NoMemory within one refused = absurd refused
+once_spent family sector status within one refused = absurd refused
 
 once_over : (family : FamilyData) (sector : Sector) (status : Status) → DataWithin family → IsFoldFault family sector.0 outcome.DegreeOver → RefusesFold family status → DegreeOver sector ≡ status
-once_over family sector Done within one refused = absurd refused
-once_over family sector Usage within one refused = absurd refused
-once_over family sector ReadFault within one refused = absurd refused
-once_over family sector (File fault) within one refused = absurd refused
-once_over family sector (NotDivisible i) within one refused = absurd refused
-once_over family sector NotTangent within one refused = absurd refused
-once_over family sector (CheckedNo fault) within one refused = absurd refused
-once_over family sector (Cut fault) within one refused = absurd refused
 once_over family sector (NotSymmetric k) within one refused = absurd (never_broken family k one.symmetric refused)
 once_over family sector (PairsSpent other) within one refused = absurd (let same = (one_fault family within sector.0 other.0 outcome.DegreeOver outcome.PairsSpent one.fault refused.fault).1 in cc)
 once_over family sector (DegreeOver other) within one refused = ap DegreeOver (same_sector sector other (one_fault family within sector.0 other.0 outcome.DegreeOver outcome.DegreeOver one.fault refused.fault).0)
 once_over family sector (CandidatesOver other) within one refused = absurd (let same = (one_fault family within sector.0 other.0 outcome.DegreeOver outcome.CandidatesOver one.fault refused.fault).1 in cc)
-once_over family sector WriteFault within one refused = absurd refused
-once_over family sector NoMemory within one refused = absurd refused
+once_over family sector status within one refused = absurd refused
 
 once_many : (family : FamilyData) (sector : Sector) (status : Status) → DataWithin family → IsFoldFault family sector.0 outcome.CandidatesOver → RefusesFold family status → CandidatesOver sector ≡ status
-once_many family sector Done within one refused = absurd refused
-once_many family sector Usage within one refused = absurd refused
-once_many family sector ReadFault within one refused = absurd refused
-once_many family sector (File fault) within one refused = absurd refused
-once_many family sector (NotDivisible i) within one refused = absurd refused
-once_many family sector NotTangent within one refused = absurd refused
-once_many family sector (CheckedNo fault) within one refused = absurd refused
-once_many family sector (Cut fault) within one refused = absurd refused
 once_many family sector (NotSymmetric k) within one refused = absurd (never_broken family k one.symmetric refused)
 once_many family sector (PairsSpent other) within one refused = absurd (let same = (one_fault family within sector.0 other.0 outcome.CandidatesOver outcome.PairsSpent one.fault refused.fault).1 in cc)
 once_many family sector (DegreeOver other) within one refused = absurd (let same = (one_fault family within sector.0 other.0 outcome.CandidatesOver outcome.DegreeOver one.fault refused.fault).1 in cc)
 once_many family sector (CandidatesOver other) within one refused = ap CandidatesOver (same_sector sector other (one_fault family within sector.0 other.0 outcome.CandidatesOver outcome.CandidatesOver one.fault refused.fault).0)
-once_many family sector WriteFault within one refused = absurd refused
-once_many family sector NoMemory within one refused = absurd refused
+once_many family sector status within one refused = absurd refused
 
 once_broken : (family : FamilyData) (k : ℕ) (status : Status) → IsFirstBroken family k → RefusesFold family status → NotSymmetric k ≡ status
-once_broken family k Done one refused = absurd refused
-once_broken family k Usage one refused = absurd refused
-once_broken family k ReadFault one refused = absurd refused
-once_broken family k (File fault) one refused = absurd refused
-once_broken family k (NotDivisible i) one refused = absurd refused
-once_broken family k NotTangent one refused = absurd refused
-once_broken family k (CheckedNo fault) one refused = absurd refused
-once_broken family k (Cut fault) one refused = absurd refused
 once_broken family k (NotSymmetric other) one refused = ap NotSymmetric (one_broken family k other one refused)
 once_broken family k (PairsSpent sector) one refused = absurd (never_broken family k refused.symmetric one)
 once_broken family k (DegreeOver sector) one refused = absurd (never_broken family k refused.symmetric one)
 once_broken family k (CandidatesOver sector) one refused = absurd (never_broken family k refused.symmetric one)
-once_broken family k WriteFault one refused = absurd refused
-once_broken family k NoMemory one refused = absurd refused
+once_broken family k status one refused = absurd refused
 
 pub fold_once : (family : FamilyData) (first second : Status) → DataWithin family → RefusesFold family first → RefusesFold family second → first ≡ second
-fold_once family Done second within refused also = absurd refused
-fold_once family Usage second within refused also = absurd refused
-fold_once family ReadFault second within refused also = absurd refused
-fold_once family (File fault) second within refused also = absurd refused
-fold_once family (NotDivisible i) second within refused also = absurd refused
-fold_once family NotTangent second within refused also = absurd refused
-fold_once family (CheckedNo fault) second within refused also = absurd refused
-fold_once family (Cut fault) second within refused also = absurd refused
 fold_once family (NotSymmetric k) second within refused also = once_broken family k second refused also
 fold_once family (PairsSpent sector) second within refused also = once_spent family sector second within refused also
 fold_once family (DegreeOver sector) second within refused also = once_over family sector second within refused also
 fold_once family (CandidatesOver sector) second within refused also = once_many family sector second within refused also
-fold_once family WriteFault second within refused also = absurd refused
-fold_once family NoMemory second within refused also = absurd refused
+fold_once family first second within refused also = absurd refused
 
 -- a fault of the family's system refuses the family
 pub refuses_run : (family : FamilyData) (result : Result System SystemFault) (fault : SystemFault) → AreSymmetries family → IsAnswerFor family result → result ≡ Err fault

@@ -9,7 +9,7 @@ use Rattle.ibp_relation.specs.Conditions.{IsFirstUndivided}
 use Rattle.ibp_relation.proofs.Outcomes.{first_unique}
 use Rattle.commands.specs.Identity.{MeetsProbe, IsIdentityText, IsNotDivisible, IsNotTangent, RefusesIdentity}
 use Rattle.commands.specs.declared.status.Status.{Status}
-use Rattle.commands.specs.declared.status.Status.TheVariants.{Done, Usage, ReadFault, File, NotDivisible, NotTangent, PairsSpent, DegreeOver, CandidatesOver, WriteFault, NoMemory, CheckedNo, Cut, NotSymmetric}
+use Rattle.commands.specs.declared.status.Status.TheVariants.{NotDivisible, NotTangent}
 use Rattle.commands.proofs.Probes.{same_probe, divisible_again, tangent_again}
 
 same_variable : (family : FamilyData) (i j : ℕ) → IsNotDivisible family i → IsNotDivisible family j → i ≡ j
@@ -30,64 +30,20 @@ identity_meets family text is = record { probe = is.is_row.probe; given = is.is_
 pub identity_not_refused : (family : FamilyData) (status : Status) → MeetsProbe family → RefusesIdentity family status → ⊥
 identity_not_refused family (NotDivisible i) met refused = divisible_again family i met refused
 identity_not_refused family NotTangent met refused = tangent_again family met refused
-identity_not_refused family (Cut fault) met refused = refused
-identity_not_refused family (CheckedNo fault) met refused = refused
-identity_not_refused family (NotSymmetric k) met refused = refused
-identity_not_refused family Done met refused = refused
-identity_not_refused family Usage met refused = refused
-identity_not_refused family ReadFault met refused = refused
-identity_not_refused family (File fault) met refused = refused
-identity_not_refused family (PairsSpent sector) met refused = refused
-identity_not_refused family (DegreeOver sector) met refused = refused
-identity_not_refused family (CandidatesOver sector) met refused = refused
-identity_not_refused family WriteFault met refused = refused
-identity_not_refused family NoMemory met refused = refused
+identity_not_refused family status met refused = refused
 
 once_divisible : (family : FamilyData) (i : ℕ) (status : Status) → IsNotDivisible family i → RefusesIdentity family status → NotDivisible i ≡ status
 once_divisible family i (NotDivisible j) first refused = ap NotDivisible (same_variable family i j first refused)
 once_divisible family i NotTangent first refused = absurd (divided_or_not family i first refused)
-once_divisible family i (Cut fault) first refused = absurd refused
-once_divisible family i (CheckedNo fault) first refused = absurd refused
-once_divisible family i (NotSymmetric k) first refused = absurd refused
-once_divisible family i Done first refused = absurd refused
-once_divisible family i Usage first refused = absurd refused
-once_divisible family i ReadFault first refused = absurd refused
-once_divisible family i (File fault) first refused = absurd refused
-once_divisible family i (PairsSpent sector) first refused = absurd refused
-once_divisible family i (DegreeOver sector) first refused = absurd refused
-once_divisible family i (CandidatesOver sector) first refused = absurd refused
-once_divisible family i WriteFault first refused = absurd refused
-once_divisible family i NoMemory first refused = absurd refused
+once_divisible family i status first refused = absurd refused
 
 once_tangent : (family : FamilyData) (status : Status) → IsNotTangent family → RefusesIdentity family status → NotTangent ≡ status
 once_tangent family (NotDivisible j) first refused = absurd (divided_or_not family j refused first)
 once_tangent family NotTangent first refused = refl
-once_tangent family (Cut fault) first refused = absurd refused
-once_tangent family (CheckedNo fault) first refused = absurd refused
-once_tangent family (NotSymmetric k) first refused = absurd refused
-once_tangent family Done first refused = absurd refused
-once_tangent family Usage first refused = absurd refused
-once_tangent family ReadFault first refused = absurd refused
-once_tangent family (File fault) first refused = absurd refused
-once_tangent family (PairsSpent sector) first refused = absurd refused
-once_tangent family (DegreeOver sector) first refused = absurd refused
-once_tangent family (CandidatesOver sector) first refused = absurd refused
-once_tangent family WriteFault first refused = absurd refused
-once_tangent family NoMemory first refused = absurd refused
+once_tangent family status first refused = absurd refused
 
 -- a family and its probe are refused in one way
 pub identity_once : (family : FamilyData) (first second : Status) → RefusesIdentity family first → RefusesIdentity family second → first ≡ second
 identity_once family (NotDivisible i) second refused also = once_divisible family i second refused also
 identity_once family NotTangent second refused also = once_tangent family second refused also
-identity_once family (Cut fault) second refused also = absurd refused
-identity_once family (CheckedNo fault) second refused also = absurd refused
-identity_once family (NotSymmetric k) second refused also = absurd refused
-identity_once family Done second refused also = absurd refused
-identity_once family Usage second refused also = absurd refused
-identity_once family ReadFault second refused also = absurd refused
-identity_once family (File fault) second refused also = absurd refused
-identity_once family (PairsSpent sector) second refused also = absurd refused
-identity_once family (DegreeOver sector) second refused also = absurd refused
-identity_once family (CandidatesOver sector) second refused also = absurd refused
-identity_once family WriteFault second refused also = absurd refused
-identity_once family NoMemory second refused also = absurd refused
+identity_once family first second refused also = absurd refused

@@ -22,7 +22,7 @@ use Rattle.system_text.specs.declared.value.SectorBlock.{SectorBlock}
 use Rattle.system_text.specs.Systems.{block_text}
 use Rattle.commands.specs.Meet.{TangentEndsSo, IsTangentOf, AreMeetSectors, MeetEndsSo, IsMet, HasMeet, IsBlockOf, IsMeetText, StopsAt, IsFirstStop, StopsSo, RefusesMeet}
 use Rattle.commands.specs.declared.status.Status.{Status}
-use Rattle.commands.specs.declared.status.Status.TheVariants.{Done, Usage, ReadFault, File, NotDivisible, NotTangent, PairsSpent, DegreeOver, CandidatesOver, WriteFault, NoMemory, CheckedNo, Cut, NotSymmetric}
+use Rattle.commands.specs.declared.status.Status.TheVariants.{Done, PairsSpent, DegreeOver}
 use Rattle.commands.proofs.OfPlain.{same_sector}
 
 -- ---- one tangent module, one list of sectors, one end of each run
@@ -121,20 +121,9 @@ not_stopped family number s end within stops met (inr one) =
     (subst (λ (l : List StrippedField). IsMet family l s) (sym tangent) own)
 
 pub meet_not_refused : (family : FamilyData) (number : ℕ) (status : Status) → DataWithin family → HasMeet family number → RefusesMeet family number status → ⊥
-meet_not_refused family number Done within met refused = refused
-meet_not_refused family number Usage within met refused = refused
-meet_not_refused family number ReadFault within met refused = refused
-meet_not_refused family number (File fault) within met refused = refused
-meet_not_refused family number (NotDivisible i) within met refused = refused
-meet_not_refused family number NotTangent within met refused = refused
-meet_not_refused family number (Cut fault) within met refused = refused
-meet_not_refused family number (CheckedNo fault) within met refused = refused
-meet_not_refused family number (NotSymmetric k) within met refused = refused
 meet_not_refused family number (PairsSpent sector) within met refused = not_stopped family number sector run.PairsSpent within tt met refused
 meet_not_refused family number (DegreeOver sector) within met refused = not_stopped family number sector run.DegreeOver within tt met refused
-meet_not_refused family number (CandidatesOver sector) within met refused = refused
-meet_not_refused family number WriteFault within met refused = refused
-meet_not_refused family number NoMemory within met refused = refused
+meet_not_refused family number status within met refused = refused
 
 status_at : Sector → run.RunEnd → Status
 status_at sector (run.Done elements taken) = Done
@@ -151,20 +140,9 @@ record IsStop (family : FamilyData) (number : ℕ) (status : Status) : Type 0 wh
 
 stop_of : (family : FamilyData) (number : ℕ) (status : Status) → RefusesMeet family number status → IsStop family number status
 unfolding status_at
-stop_of family number Done refused = absurd refused
-stop_of family number Usage refused = absurd refused
-stop_of family number ReadFault refused = absurd refused
-stop_of family number (File fault) refused = absurd refused
-stop_of family number (NotDivisible i) refused = absurd refused
-stop_of family number NotTangent refused = absurd refused
-stop_of family number (Cut fault) refused = absurd refused
-stop_of family number (CheckedNo fault) refused = absurd refused
-stop_of family number (NotSymmetric k) refused = absurd refused
 stop_of family number (PairsSpent sector) refused = record { sector = sector; end = run.PairsSpent; stops = tt; so = refused; is = refl }
 stop_of family number (DegreeOver sector) refused = record { sector = sector; end = run.DegreeOver; stops = tt; so = refused; is = refl }
-stop_of family number (CandidatesOver sector) refused = absurd refused
-stop_of family number WriteFault refused = absurd refused
-stop_of family number NoMemory refused = absurd refused
+stop_of family number status refused = absurd refused
 
 pub meet_once : (family : FamilyData) (number : ℕ) (first second : Status) → DataWithin family → RefusesMeet family number first → RefusesMeet family number second → first ≡ second
 meet_once family number first second within refused also =

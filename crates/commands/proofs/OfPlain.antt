@@ -8,87 +8,37 @@ use Rattle.neat_system.specs.System.{IsFault}
 use Rattle.neat_system.proofs.OneSystem.{one_fault, never_both}
 use Rattle.commands.specs.Plain.{HasSystem, RefusesPlain}
 use Rattle.commands.specs.declared.status.Status.{Status}
-use Rattle.commands.specs.declared.status.Status.TheVariants.{Done, Usage, ReadFault, File, NotDivisible, NotTangent, PairsSpent, DegreeOver, CandidatesOver, WriteFault, NoMemory, CheckedNo, Cut, NotSymmetric}
+use Rattle.commands.specs.declared.status.Status.TheVariants.{PairsSpent, DegreeOver, CandidatesOver}
 
 pub same_sector : (s t : Sector) → s.0 ≡ t.0 → s ≡ t
 same_sector s t same = ap (λ (k : ℕ). let sector : Sector = record { 0 = k } in sector) same
 
 pub plain_not_refused : (family : FamilyData) (status : Status) → DataWithin family → HasSystem family → RefusesPlain family status → ⊥
-plain_not_refused family Done within met refused = refused
-plain_not_refused family Usage within met refused = refused
-plain_not_refused family ReadFault within met refused = refused
-plain_not_refused family (File fault) within met refused = refused
-plain_not_refused family (NotDivisible i) within met refused = refused
-plain_not_refused family NotTangent within met refused = refused
-plain_not_refused family (Cut fault) within met refused = refused
-plain_not_refused family (CheckedNo fault) within met refused = refused
-plain_not_refused family (NotSymmetric k) within met refused = refused
 plain_not_refused family (PairsSpent sector) within met refused = never_both family within met.system sector.0 outcome.PairsSpent refused met.is_system
 plain_not_refused family (DegreeOver sector) within met refused = never_both family within met.system sector.0 outcome.DegreeOver refused met.is_system
 plain_not_refused family (CandidatesOver sector) within met refused = never_both family within met.system sector.0 outcome.CandidatesOver refused met.is_system
-plain_not_refused family WriteFault within met refused = refused
-plain_not_refused family NoMemory within met refused = refused
+plain_not_refused family status within met refused = refused
 
 once_spent : (family : FamilyData) (sector : Sector) (status : Status) → DataWithin family → IsFault family sector.0 outcome.PairsSpent → RefusesPlain family status → PairsSpent sector ≡ status
-once_spent family sector Done within one refused = absurd refused
-once_spent family sector Usage within one refused = absurd refused
-once_spent family sector ReadFault within one refused = absurd refused
-once_spent family sector (File fault) within one refused = absurd refused
-once_spent family sector (NotDivisible i) within one refused = absurd refused
-once_spent family sector NotTangent within one refused = absurd refused
-once_spent family sector (Cut fault) within one refused = absurd refused
-once_spent family sector (CheckedNo fault) within one refused = absurd refused
-once_spent family sector (NotSymmetric k) within one refused = absurd refused
 once_spent family sector (PairsSpent other) within one refused = ap PairsSpent (same_sector sector other (one_fault family within sector.0 other.0 outcome.PairsSpent outcome.PairsSpent one refused).0)
 once_spent family sector (DegreeOver other) within one refused = absurd (let same = (one_fault family within sector.0 other.0 outcome.PairsSpent outcome.DegreeOver one refused).1 in cc)
 once_spent family sector (CandidatesOver other) within one refused = absurd (let same = (one_fault family within sector.0 other.0 outcome.PairsSpent outcome.CandidatesOver one refused).1 in cc)
-once_spent family sector WriteFault within one refused = absurd refused
-once_spent family sector NoMemory within one refused = absurd refused
+once_spent family sector status within one refused = absurd refused
 
 once_over : (family : FamilyData) (sector : Sector) (status : Status) → DataWithin family → IsFault family sector.0 outcome.DegreeOver → RefusesPlain family status → DegreeOver sector ≡ status
-once_over family sector Done within one refused = absurd refused
-once_over family sector Usage within one refused = absurd refused
-once_over family sector ReadFault within one refused = absurd refused
-once_over family sector (File fault) within one refused = absurd refused
-once_over family sector (NotDivisible i) within one refused = absurd refused
-once_over family sector NotTangent within one refused = absurd refused
-once_over family sector (Cut fault) within one refused = absurd refused
-once_over family sector (CheckedNo fault) within one refused = absurd refused
-once_over family sector (NotSymmetric k) within one refused = absurd refused
 once_over family sector (PairsSpent other) within one refused = absurd (let same = (one_fault family within sector.0 other.0 outcome.DegreeOver outcome.PairsSpent one refused).1 in cc)
 once_over family sector (DegreeOver other) within one refused = ap DegreeOver (same_sector sector other (one_fault family within sector.0 other.0 outcome.DegreeOver outcome.DegreeOver one refused).0)
 once_over family sector (CandidatesOver other) within one refused = absurd (let same = (one_fault family within sector.0 other.0 outcome.DegreeOver outcome.CandidatesOver one refused).1 in cc)
-once_over family sector WriteFault within one refused = absurd refused
-once_over family sector NoMemory within one refused = absurd refused
+once_over family sector status within one refused = absurd refused
 
 once_many : (family : FamilyData) (sector : Sector) (status : Status) → DataWithin family → IsFault family sector.0 outcome.CandidatesOver → RefusesPlain family status → CandidatesOver sector ≡ status
-once_many family sector Done within one refused = absurd refused
-once_many family sector Usage within one refused = absurd refused
-once_many family sector ReadFault within one refused = absurd refused
-once_many family sector (File fault) within one refused = absurd refused
-once_many family sector (NotDivisible i) within one refused = absurd refused
-once_many family sector NotTangent within one refused = absurd refused
-once_many family sector (Cut fault) within one refused = absurd refused
-once_many family sector (CheckedNo fault) within one refused = absurd refused
-once_many family sector (NotSymmetric k) within one refused = absurd refused
 once_many family sector (PairsSpent other) within one refused = absurd (let same = (one_fault family within sector.0 other.0 outcome.CandidatesOver outcome.PairsSpent one refused).1 in cc)
 once_many family sector (DegreeOver other) within one refused = absurd (let same = (one_fault family within sector.0 other.0 outcome.CandidatesOver outcome.DegreeOver one refused).1 in cc)
 once_many family sector (CandidatesOver other) within one refused = ap CandidatesOver (same_sector sector other (one_fault family within sector.0 other.0 outcome.CandidatesOver outcome.CandidatesOver one refused).0)
-once_many family sector WriteFault within one refused = absurd refused
-once_many family sector NoMemory within one refused = absurd refused
+once_many family sector status within one refused = absurd refused
 
 pub plain_once : (family : FamilyData) (first second : Status) → DataWithin family → RefusesPlain family first → RefusesPlain family second → first ≡ second
-plain_once family Done second within refused also = absurd refused
-plain_once family Usage second within refused also = absurd refused
-plain_once family ReadFault second within refused also = absurd refused
-plain_once family (File fault) second within refused also = absurd refused
-plain_once family (NotDivisible i) second within refused also = absurd refused
-plain_once family NotTangent second within refused also = absurd refused
-plain_once family (Cut fault) second within refused also = absurd refused
-plain_once family (CheckedNo fault) second within refused also = absurd refused
-plain_once family (NotSymmetric k) second within refused also = absurd refused
 plain_once family (PairsSpent sector) second within refused also = once_spent family sector second within refused also
 plain_once family (DegreeOver sector) second within refused also = once_over family sector second within refused also
 plain_once family (CandidatesOver sector) second within refused also = once_many family sector second within refused also
-plain_once family WriteFault second within refused also = absurd refused
-plain_once family NoMemory second within refused also = absurd refused
+plain_once family first second within refused also = absurd refused

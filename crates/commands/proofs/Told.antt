@@ -102,37 +102,16 @@ no_fault (command.Drill number) given fault refused = refused
 pub told_refusal : (r : Refusal) (asked : Command) (given : Result Given FileFault) (known : Option (List ℕ)) → Answers asked given (Err r) → Tells asked given known known (status_of r)
 told_refusal refusal.NoMemory asked given known failed = Keeps-same known
 told_refusal (refusal.File fault) asked (Ok g) known failed = absurd (no_fault asked g fault failed)
-told_refusal (refusal.NotDivisible i) asked (Ok g) known failed = (failed, Keeps-same known)
-told_refusal refusal.NotTangent asked (Ok g) known failed = (failed, Keeps-same known)
-told_refusal (refusal.CheckedNo fault) asked (Ok g) known failed = (failed, Keeps-same known)
-told_refusal (refusal.Cut fault) asked (Ok g) known failed = (failed, Keeps-same known)
-told_refusal (refusal.NotSymmetric k) asked (Ok g) known failed = (failed, Keeps-same known)
-told_refusal (refusal.PairsSpent sector) asked (Ok g) known failed = (failed, Keeps-same known)
-told_refusal (refusal.DegreeOver sector) asked (Ok g) known failed = (failed, Keeps-same known)
-told_refusal (refusal.CandidatesOver sector) asked (Ok g) known failed = (failed, Keeps-same known)
+told_refusal r asked (Ok g) known failed = (failed, Keeps-same known)
 told_refusal (refusal.File fault) asked (Err other) known failed = (cc, Keeps-same known)
-told_refusal (refusal.NotDivisible i) asked (Err other) known failed = absurd (cc)
-told_refusal refusal.NotTangent asked (Err other) known failed = absurd (cc)
-told_refusal (refusal.CheckedNo fault) asked (Err other) known failed = absurd (cc)
-told_refusal (refusal.Cut fault) asked (Err other) known failed = absurd (cc)
-told_refusal (refusal.NotSymmetric k) asked (Err other) known failed = absurd (cc)
-told_refusal (refusal.PairsSpent sector) asked (Err other) known failed = absurd (cc)
-told_refusal (refusal.DegreeOver sector) asked (Err other) known failed = absurd (cc)
-told_refusal (refusal.CandidatesOver sector) asked (Err other) known failed = absurd (cc)
+told_refusal r asked (Err other) known failed = absurd (cc)
 
 -- only want of memory refuses a family that the command works on
 pub refused : (r : Refusal) (asked : Command) (given : Result Given FileFault) → ((g : Given) → given ≡ Ok g → DataWithin g.family) → Answers asked given (Err r) → IsOkAnd given (Accepts asked) → r ≡ refusal.NoMemory
 refused r asked (Err e) limits failed meets = absurd meets
 refused refusal.NoMemory asked (Ok g) limits failed meets = refl
 refused (refusal.File fault) asked (Ok g) limits failed meets = absurd (no_fault asked g fault failed)
-refused (refusal.NotDivisible i) asked (Ok g) limits failed meets = absurd (not_refused asked g (status.NotDivisible i) (limits g refl) meets failed)
-refused refusal.NotTangent asked (Ok g) limits failed meets = absurd (not_refused asked g status.NotTangent (limits g refl) meets failed)
-refused (refusal.CheckedNo fault) asked (Ok g) limits failed meets = absurd (not_refused asked g (status.CheckedNo fault) (limits g refl) meets failed)
-refused (refusal.Cut fault) asked (Ok g) limits failed meets = absurd (not_refused asked g (status.Cut fault) (limits g refl) meets failed)
-refused (refusal.NotSymmetric k) asked (Ok g) limits failed meets = absurd (not_refused asked g (status.NotSymmetric k) (limits g refl) meets failed)
-refused (refusal.PairsSpent sector) asked (Ok g) limits failed meets = absurd (not_refused asked g (status.PairsSpent sector) (limits g refl) meets failed)
-refused (refusal.DegreeOver sector) asked (Ok g) limits failed meets = absurd (not_refused asked g (status.DegreeOver sector) (limits g refl) meets failed)
-refused (refusal.CandidatesOver sector) asked (Ok g) limits failed meets = absurd (not_refused asked g (status.CandidatesOver sector) (limits g refl) meets failed)
+refused r asked (Ok g) limits failed meets = absurd (not_refused asked g (status_of r) (limits g refl) meets failed)
 
 -- ---- a source that could not be read
 

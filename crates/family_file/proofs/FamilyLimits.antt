@@ -1,5 +1,5 @@
 -- What a file is accepted with is within the limits.
-use Rattle.std.proofs.Common.{◌≡◌, ◌≢◌, ℕ, zero, suc, ◌+◌, ◌-◌, ◌*◌, ◌/◌, ◌<◌, ◌≤◌, ◌^◌, ◌&&◌, List, [], ◌∷◌, ◌++◌, length, sum, replicate, Result, Ok, Err, Option, Some, None, IsSome, refl, ◌∙◌, subst, arith, length-append}
+use Rattle.std.proofs.Common.{◌≡◌, ◌≢◌, ℕ, zero, suc, ◌+◌, ◌-◌, ◌*◌, ◌/◌, ◌<◌, ◌≤◌, ◌^◌, ◌&&◌, List, [], ◌∷◌, ◌++◌, length, sum, replicate, Result, Ok, Err, Option, Some, None, IsSome, Bool, true, false, cond, ok_or, refl, ◌∙◌, subst, arith, length-append}
 use Rattle.std.specs.Prelude.{nat_lt, nat_le, ◌==◌, slice_index_or}
 use Rattle.std.specs.List.{All, AllByRecursion}
 use Rattle.std.specs.Option.{ForSome}
@@ -14,7 +14,7 @@ use Rattle.poly_text.specs.PolyText.{NumbersValue, value_in}
 use Rattle.poly_text.specs.Answer.{text_answer}
 use Rattle.sparse_poly.specs.declared.limits.TheConstants.{DEGREE_LIMIT, TERM_LIMIT}
 use Rattle.family.specs.declared.limits.TheConstants.{CAP_LIMIT, EXTRA_LIMIT, PAIR_LIMIT, CANDIDATE_LIMIT}
-use Rattle.family_file.specs.declared.limits.TheConstants.{MAX_FILE, LOOP_LIMIT}
+use Rattle.family_file.specs.declared.limits.TheConstants.{LOOP_LIMIT}
 use Rattle.family_file.specs.declared.version.Version.{Version}
 use Rattle.family_file.specs.declared.version.Version.TheVariants.{One, Two}
 use Rattle.family_file.specs.declared.fault.FileFault.{FileFault}
@@ -29,20 +29,22 @@ use Rattle.family_file.specs.Need.{needs_probe}
 use Rattle.family_file.specs.Reading.{collect}
 use Rattle.family_file.specs.Table.{PolynomialData, polynomial_text, term_list, polynomial_of}
 use Rattle.family_file.specs.Numbers.{natural}
-use Rattle.family_file.specs.Version.{version_of, leg_limit, variable_limit}
+use Rattle.family_file.specs.Version.{leg_limit, variable_limit}
 use Rattle.family_file.specs.Caps.{caps_of}
 use Rattle.family_file.specs.Symmetries.{symmetries_of}
 use Rattle.family_file.specs.Selection.{selection_of}
-use Rattle.family_file.specs.Document.{HeaderKeys, BodyKeys, BoundsKeys, BudgetKeys, ProbeKeys, DocumentKeys, document_keys}
+use Rattle.family_file.specs.Document.{HeaderKeys, BodyKeys, BoundsKeys, BudgetKeys, ProbeKeys, DocumentKeys}
 use Rattle.family.specs.Shapes.{HasVariables}
 use Rattle.family.specs.Limits.{BoundsWithin, BudgetWithin, IsProbe, FamilyLimits}
 use Rattle.family_file.specs.Arrays.{integer_in, list_in, powers_from, targets_of, zero_sectors_of}
 use Rattle.family_file.specs.Polynomials.{or_fault, text_in, residue_in, numbers_of, exponent_in, term_from, term_in, terms_of, polynomial_in, polynomial_value, field_of}
+use Rattle.family.specs.Name.{is_name}
 use Rattle.family.specs.Within.{DataWithin}
 use Rattle.family_file.specs.Accepted.{MeetsNeed}
-use Rattle.family_file.specs.Family.{ShapeData, BodyData, table_of_bytes, name_in, shape_of, unless_zero, bounds_of, budget_of, probe_of, needed_probe, sector_check, baikov_of, body_of, family_of_keys, family_of}
+use Rattle.family_file.specs.Family.{ShapeData, BodyData, name_in, shape_of, unless_zero, bounds_of, budget_of, probe_of, needed_probe, sector_check, baikov_of, body_of, family_of}
 use Rattle.family.specs.FamilyData.{FamilyData}
 use Rattle.family_file.proofs.Binds.{bind_ok, if_ok, unless_ok, where_ok, natural_within, collect_each, collect_length}
+use Rattle.family_file.proofs.FamilySteps.{accepted_steps}
 use Rattle.ibp_base.proofs.Tests.{same_ok, both_true}
 use Rattle.ibp_base.proofs.Members.{All-each}
 use Rattle.family_file.proofs.TargetLimits.{powers_are, targets_are, AreTargets}
@@ -282,29 +284,26 @@ pub keys_within : (n : ℕ) → 1 ≤ n → n ≤ VARIABLES → (need : Need) (k
 keys_within n some few need keys body bounds caps symmetries budget probe a b own c d group =
     limits_of n body bounds caps symmetries budget probe some few (body_is n few keys.body body a) (bounds_are keys.bounds bounds b) (caps_are n keys.sectors caps own) (symmetries_are n keys.symmetries symmetries group) (budget_is keys.budget budget c) (needed_probe_is need n few body.numbers keys.probe probe d)
 
-keys_limits : (need : Need) (keys : DocumentKeys) (family : FamilyData) → family_of_keys need keys ≡ Ok family → DataWithin family
-unfolding family_of_keys
-keys_limits need keys family e =
-    let version = bind_ok (version_of keys.header.version) _ family e in
-    let name = bind_ok (name_in keys.header.name) _ family version.1.1 in
-    let shape = bind_ok (shape_of version.0 keys.header) _ family name.1.1 in
-    let body = bind_ok (body_of shape.0.variables keys.body) _ family shape.1.1 in
-    let bounds = bind_ok (bounds_of keys.bounds) _ family body.1.1 in
-    let caps = bind_ok (caps_of shape.0.variables keys.sectors) _ family bounds.1.1 in
-    let budget = bind_ok (budget_of keys.budget) _ family caps.1.1 in
-    let probe = bind_ok (needed_probe need shape.0.variables body.0.numbers keys.probe) _ family budget.1.1 in
-    let sector = bind_ok (sector_check need shape.0.variables) _ family probe.1.1 in
-    let symmetries = bind_ok (symmetries_of shape.0.variables keys.symmetries) _ family sector.1.1 in
-    let fits = shape_is version.0 keys.header shape.0 shape.1.0 in
-    subst DataWithin (same_ok _ family symmetries.1.1) (keys_within shape.0.variables fits.some fits.few need keys body.0 bounds.0 caps.0 symmetries.0 budget.0 probe.0 body.1.0 bounds.1.0 caps.1.0 budget.1.0 probe.1.0 symmetries.1.0)
-
 pub accepted_within : (need : Need) (bytes : List ℕ) (family : FamilyData) → family_of need bytes ≡ Ok family → DataWithin family
-unfolding family_of
 accepted_within need bytes family e =
-    let short = unless_ok (nat_lt MAX_FILE (length bytes)) _ faults.TooLong family e in
-    let table = bind_ok (table_of_bytes bytes) _ family short.1 in
-    let keys = bind_ok (document_keys table.0) _ family table.1.1 in
-    keys_limits need keys.0 family keys.1.1
+    let read = accepted_steps need bytes family e in
+    let s = read.steps in
+    let fits = shape_is s.version read.keys.header s.shape s.shape_read in
+    subst DataWithin s.is (keys_within s.shape.variables fits.some fits.few need read.keys s.body s.bounds s.caps s.symmetries s.budget s.probe s.body_read s.bounds_read s.caps_read s.budget_read s.probe_read s.symmetries_read)
+
+-- ---- the name
+
+name_given : (bytes : List ℕ) (test : Bool) → is_name bytes ≡ test → (name : List ℕ) → ok_or (cond test (Some bytes) None) faults.Header ≡ Ok name → is_name name ≡ true
+name_given bytes true is name e = subst (λ (n : List ℕ). is_name n ≡ true) (same_ok bytes name e) is
+name_given bytes false is name e = absurd (cc)
+
+name_is : (bytes name : List ℕ) → name_in bytes ≡ Ok name → is_name name ≡ true
+name_is bytes name e = name_given bytes (is_name bytes) refl name e
+
+pub accepted_named : (need : Need) (bytes : List ℕ) (family : FamilyData) → family_of need bytes ≡ Ok family → is_name family.name ≡ true
+accepted_named need bytes family e =
+    let read = accepted_steps need bytes family e in
+    subst (λ (f : FamilyData). is_name f.name ≡ true) read.steps.is (name_is read.keys.header.name read.steps.name read.steps.name_read)
 
 -- ---- what is needed is there
 
@@ -320,28 +319,12 @@ sector_given number n checked e =
     let found = where_ok (nat_lt number (2 ^ n)) (Ok tt) faults.NoSector checked e in
     grind (arith, nat_tests, found.0)
 
-needs_met : (need : Need) (keys : DocumentKeys) (family : FamilyData) → family_of_keys need keys ≡ Ok family → MeetsNeed need family
-unfolding family_of_keys
-needs_met need keys family e =
-    let version = bind_ok (version_of keys.header.version) _ family e in
-    let name = bind_ok (name_in keys.header.name) _ family version.1.1 in
-    let shape = bind_ok (shape_of version.0 keys.header) _ family name.1.1 in
-    let body = bind_ok (body_of shape.0.variables keys.body) _ family shape.1.1 in
-    let bounds = bind_ok (bounds_of keys.bounds) _ family body.1.1 in
-    let caps = bind_ok (caps_of shape.0.variables keys.sectors) _ family bounds.1.1 in
-    let budget = bind_ok (budget_of keys.budget) _ family caps.1.1 in
-    let probe = bind_ok (needed_probe need shape.0.variables body.0.numbers keys.probe) _ family budget.1.1 in
-    let sector = bind_ok (sector_check need shape.0.variables) _ family probe.1.1 in
-    let symmetries = bind_ok (symmetries_of shape.0.variables keys.symmetries) _ family sector.1.1 in
-    subst (MeetsNeed need) (same_ok _ family symmetries.1.1) (record {
-      probe = λ same. probe_given shape.0.variables body.0.numbers keys.probe probe.0 (subst (λ other. needed_probe other shape.0.variables body.0.numbers keys.probe ≡ Ok probe.0) same probe.1.0);
-      sector = λ number same. sector_given number shape.0.variables sector.0 (subst (λ other. sector_check other shape.0.variables ≡ Ok sector.0) same sector.1.0);
-    })
-
 pub accepted_needs : (need : Need) (bytes : List ℕ) (family : FamilyData) → family_of need bytes ≡ Ok family → MeetsNeed need family
-unfolding family_of
 accepted_needs need bytes family e =
-    let short = unless_ok (nat_lt MAX_FILE (length bytes)) _ faults.TooLong family e in
-    let table = bind_ok (table_of_bytes bytes) _ family short.1 in
-    let keys = bind_ok (document_keys table.0) _ family table.1.1 in
-    needs_met need keys.0 family keys.1.1
+    let read = accepted_steps need bytes family e in
+    let s = read.steps in
+    let n = s.shape.variables in
+    subst (MeetsNeed need) s.is (record {
+      probe = λ same. probe_given n s.body.numbers read.keys.probe s.probe (subst (λ other. needed_probe other n s.body.numbers read.keys.probe ≡ Ok s.probe) same s.probe_read);
+      sector = λ number same. sector_given number n s.sector (subst (λ other. sector_check other n ≡ Ok s.sector) same s.sector_read);
+    })

@@ -15,6 +15,7 @@ pub mod PolynomialLimits
 pub mod Texts
 pub mod TextLimits
 pub mod Filling
+pub mod FamilySteps
 pub mod FamilyLimits
 pub mod DrillLimits
 pub mod Products

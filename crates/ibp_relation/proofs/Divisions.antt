@@ -27,13 +27,13 @@ is_less A B C Greater h e = absurd (cc)
 positive_when : (α : List ℤ) (i : ℕ) → in_sector_of α i ≡ true → pos 0 <ℤ power_at α i
 positive_when α i e = is_less _ _ _ (int_cmp (pos 0) (power_at α i)) (int_ranks (pos 0) (power_at α i)) e
 
-pub in_sector_when : (α : List ℤ) (i : ℕ) (x : ℤ) → slice_get α i ≡ Some x → pos 0 <ℤ x → in_sector_of α i ≡ true
+in_sector_when : (α : List ℤ) (i : ℕ) (x : ℤ) → slice_get α i ≡ Some x → pos 0 <ℤ x → in_sector_of α i ≡ true
 in_sector_when α i x e h =
     let value : power_at α i ≡ x = get_or_from_slice_get α i x (pos 0) e in
     let positive : pos 0 <ℤ power_at α i = rw value h in
     ap is_lt (sym (int_cmp_is (pos 0) (power_at α i) Less positive))
 
-pub outside_when : (α : List ℤ) (i : ℕ) (x : ℤ) → slice_get α i ≡ Some x → x ≤ℤ pos 0 → in_sector_of α i ≡ true → ⊥
+outside_when : (α : List ℤ) (i : ℕ) (x : ℤ) → slice_get α i ≡ Some x → x ≤ℤ pos 0 → in_sector_of α i ≡ true → ⊥
 outside_when α i x e h inside =
     let value : power_at α i ≡ x = get_or_from_slice_get α i x (pos 0) e in
     let positive : pos 0 <ℤ x = rw (sym value) (positive_when α i inside) in

@@ -5,7 +5,8 @@ pub mod Uniqueness
 pub mod NoRise
 pub mod Embedding
 pub mod Rows
-pub mod ShiftSteps
+pub mod AffineTerms
+pub mod TermsAtSeed
 pub mod Tangents
 pub mod Examples
 pub mod Powers

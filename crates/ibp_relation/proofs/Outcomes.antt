@@ -35,11 +35,10 @@ SameRow-from_laurent h = SameCoefficients-retest same_powers (eq_by_cmp integral
 
 -- the sum of the shifts, without the integrals that are struck
 pub identity_row : (n γ : ℕ) (p : Polynomial) (a : List Polynomial) (b : Polynomial) (α : List ℤ) (struck : List ℤ → Bool) (terms now sum row : Laurent)
-    → length α ≡ n → length a ≡ n → MeetsConditions p (in_sector_of α) a b → SameLaurent terms (shifts (length α) γ a b α) → now ≡ terms → SameRow sum now
+    → length α ≡ n → length a ≡ n → MeetsConditions p (in_sector_of α) a b → SameLaurent terms (shifts n γ a b α) → now ≡ terms → SameRow sum now
     → row ≡ strike struck sum → IsIdentityRow n γ p a α struck row
 identity_row n γ p a b α struck terms now sum row long fits meets made is summed e =
-    let at_n : SameLaurent terms (shifts n γ a b α) = subst (λ k. SameLaurent terms (shifts k γ a b α)) long made in
-    let all : SameLaurent sum (shifts n γ a b α) = SameCoefficients-trans (SameLaurent-from_row summed) (SameCoefficients-trans (SameCoefficients-from_eq is) at_n) in
+    let all : SameLaurent sum (shifts n γ a b α) = SameCoefficients-trans (SameLaurent-from_row summed) (SameCoefficients-trans (SameCoefficients-from_eq is) made) in
     subst (λ (r : Laurent). IsIdentityRow n γ p a α struck r) (sym e)
     (IsIdentityRow-shifts n γ p a b α struck (strike struck sum) long (omega arith) meets
     (λ β fails. ap (λ k. k % 2147483647) (coefficient-strike_kept same_powers powers_decide struck β sum fails) ∙ all.same_at β)

@@ -4,21 +4,90 @@ use Rattle.std.specs.Prelude.{ℤ, pos, ◌+ℤ◌, ◌-ℤ◌, ◌≤ℤ◌, �
 use Rattle.std.proofs.Math.ListN.{length-set}
 use Rattle.std.proofs.lemmas.Int.{ints}
 use Rattle.std.proofs.lemmas.Bool.{cases_eq}
-use Rattle.std.proofs.lemmas.List.{ext_get_or, take_more, take_more_set, take_all, length-take-le, get_or-take, get_or_default, get_or_append_left}
+use Rattle.std.proofs.lemmas.List.{ext_get_or, take_more, take_more_set, take_all, length-take-le, get_or-take, get_or_default, get_or_append_left, length-map}
 use Rattle.std.proofs.Math.Seq.{take-append_seam}
 use Rattle.std.proofs.lemmas.List.{length-append}
 use Rattle.ibp_algebra.specs.Exponents.{first_exponents}
 use Rattle.ibp_algebra.specs.Laurent.{add_powers, power_at}
 use Rattle.ibp_algebra.specs.Identity.{negated}
-use Rattle.ibp_algebra.proofs.ExponentLaws.{length-padded_sum_short, get_or-first_exponents}
+use Rattle.ibp_algebra.proofs.ExponentLaws.{length-padded_sum, length-padded_sum_short, length-first_exponents, get_or-first_exponents}
 use Rattle.ibp_algebra.proofs.SumOfExponents.{get_or-le-sum}
 use Rattle.mono_order.specs.declared.limits.TheConstants.{MONO_DEGREE, VARIABLES}
 use Rattle.sector_lattice.specs.declared.integral.TheConstants.{POWER}
 use Rattle.sector_lattice.specs.Ranges.{InRange}
 use Rattle.family.specs.Shapes.{ArePowers}
 use Rattle.ibp_relation.specs.Shifts.{plus_unit, powers_of}
-use Rattle.ibp_relation.proofs.NoRise.{own_unit, other_unit, power_of_sum, shifted}
+use Rattle.ibp_relation.specs.Templates.{IsOffset}
+use Rattle.ibp_relation.proofs.NoRise.{own_unit, other_unit, power_of_sum, power_of_negated, power_of_exponents, shifted}
 use Rattle.ibp_relation.proofs.Rows.{shifted_long, length-plus_unit}
+
+-- ---- places that are written in turn
+
+-- the first places have what is wanted
+pub record WrittenBelow {X : Type 0} (wanted : List X) (i : ℕ) (places : List X) : Type 0 where
+  pub each_variable : length places ≡ VARIABLES
+  pub written : take i places ≡ take i wanted
+
+-- one more place is written
+pub written_step : {X : Type 0} (wanted places : List X) (i : ℕ) (x d : X) → length wanted ≤ VARIABLES → i < length wanted → x ≡ get_or wanted i d → WrittenBelow wanted i places
+    → WrittenBelow wanted (i + 1) (set places i x)
+written_step {X} wanted places i x d few h value e =
+    record {
+      each_variable = rw length-set e.each_variable;
+      written = take_more_set places i x (omega (arith, e.each_variable)) ∙ ap (λ (l : List X). l ++ x ∷ []) e.written ∙ ap (λ (y : X). take i wanted ++ y ∷ []) value
+          ∙ sym (take_more wanted i d h);
+    }
+
+-- all places are written
+pub written_whole : {X : Type 0} (wanted places : List X) (i n : ℕ) → length wanted ≤ i → i ≤ length wanted → n ≡ length wanted → WrittenBelow wanted i places → take n places ≡ wanted
+written_whole wanted places i n whole within count e =
+    let end : n ≡ i = omega arith in
+    ap (λ k. take k places) end ∙ e.written ∙ take_all i wanted whole
+
+-- ---- the exponents with the sign turned
+
+-- the exponent of a variable as a power
+pub power_of_monomial : (n place : ℕ) (m : List ℕ) → place < n → power_at (powers_of n m) place ≡ pos (get_or m place 0)
+power_of_monomial n place m h = power_of_exponents (first_exponents n m) place ∙ ap pos (get_or-first_exponents n place m h)
+
+pub opposite_long : (n : ℕ) (m : List ℕ) → length (negated (powers_of n m)) ≡ n
+opposite_long n m = length-map (powers_of n m) neg_ℤ ∙ length-map (first_exponents n m) pos ∙ length-first_exponents n m
+
+pub opposite_at : (n : ℕ) (m : List ℕ) (k : ℕ) → k < n → power_at (negated (powers_of n m)) k ≡ neg_ℤ (pos (get_or m k 0))
+opposite_at n m k h = power_of_negated (powers_of n m) k ∙ ap neg_ℤ (power_of_monomial n k m h)
+
+pub opposite_in_range : (n : ℕ) (m : List ℕ) → 1 ≤ n → n ≤ VARIABLES → sum m ≤ MONO_DEGREE → InRange (negated (powers_of n m))
+opposite_in_range n m some few degree = record {
+  some = omega (arith, opposite_long n m);
+  few = omega (arith, opposite_long n m);
+  small = λ k d within.
+      let below : k < n = omega (arith, opposite_long n m) in
+      let value : get_or (negated (powers_of n m)) k d ≡ neg_ℤ (pos (get_or m k 0)) = get_or_default (negated (powers_of n m)) k d (pos 0) within ∙ opposite_at n m k below in
+      let exponent = get_or-le-sum m k in
+      rw value (omega (arith, ints), omega (arith, ints));
+}
+
+-- ---- an offset added
+
+pub moved_long : (α offset : List ℤ) → length offset ≡ length α → length (add_powers α offset) ≡ length α
+moved_long α offset h = length-padded_sum ◌+ℤ◌ (length α) α offset refl h
+
+pub moved_in_range : (α offset : List ℤ) → InRange α → ArePowers (length α) α → length offset ≡ length α → IsOffset offset → InRange (add_powers α offset)
+moved_in_range α offset h powers count small_offset = record {
+  some = omega (arith, h.some, moved_long α offset count);
+  few = omega (arith, h.few, moved_long α offset count);
+  small = λ k d within.
+      let below : k < length offset = omega (arith, moved_long α offset count, count) in
+      let value : get_or (add_powers α offset) k d ≡ power_at α k +ℤ power_at offset k =
+      get_or_default (add_powers α offset) k d (pos 0) within ∙ power_of_sum α offset k
+      in
+      let low = powers.low k in
+      let high = powers.high k in
+      let small = small_offset k (pos 0) below in
+      let least = small.0 in
+      let most = small.1 in
+      rw value (omega (arith, ints), omega (arith, ints));
+}
 
 -- ---- all powers lowered
 
@@ -31,29 +100,6 @@ less_long α m = shifted_long (length α) α m refl
 
 less_at : (α : List ℤ) (m : List ℕ) (j : ℕ) → j < length α → power_at (less α m) j ≡ power_at α j -ℤ pos (get_or m j 0)
 less_at α m j h = shifted α (first_exponents (length α) m) j ∙ ap (λ x. power_at α j -ℤ pos x) (get_or-first_exponents (length α) j m h)
-
--- the first places are written
-pub record LoweredBelow (α : List ℤ) (m : List ℕ) (i : ℕ) (powers : List ℤ) : Type 0 where
-  pub each_variable : length powers ≡ VARIABLES
-  pub written : take i powers ≡ take i (less α m)
-
--- one more place is written
-pub lowered_step : (α : List ℤ) (m : List ℕ) (powers : List ℤ) (i : ℕ) (y : ℤ) → length α ≤ VARIABLES → i < length α
-    → y ≡ power_at α i -ℤ pos (get_or m i 0) → LoweredBelow α m i powers → LoweredBelow α m (i + 1) (set powers i y)
-lowered_step α m powers i y few h value e =
-    let written : y ≡ get_or (less α m) i (pos 0) = value ∙ sym (less_at α m i h) in
-    let long : i < length (less α m) = omega (arith, less_long α m) in
-    record {
-      each_variable = rw length-set e.each_variable;
-      written = take_more_set powers i y (omega (arith, e.each_variable)) ∙ ap (λ (l : List ℤ). l ++ y ∷ []) e.written ∙ ap (λ z. take i (less α m) ++ z ∷ []) written
-          ∙ sym (take_more (less α m) i (pos 0) long);
-    }
-
--- all places are written
-pub lowered_whole : (α : List ℤ) (m : List ℕ) (powers : List ℤ) (i n : ℕ) → length α ≤ i → i ≤ length α → n ≡ length α → LoweredBelow α m i powers → take n powers ≡ less α m
-lowered_whole α m powers i n whole within count e =
-    let end : n ≡ i = omega arith in
-    ap (λ k. take k powers) end ∙ e.written ∙ take_all i (less α m) (omega (arith, less_long α m))
 
 pub less_in_range : (α : List ℤ) (m : List ℕ) → InRange α → ArePowers (length α) α → sum m ≤ MONO_DEGREE → InRange (less α m)
 less_in_range α m h small degree = record {

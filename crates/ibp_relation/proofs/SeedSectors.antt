@@ -10,7 +10,7 @@ use Rattle.family.specs.declared.parts.Field.{Field}
 use Rattle.family.specs.declared.parts.StrippedField.{StrippedField}
 use Rattle.family.proofs.Places.{in_sector-sector_of}
 
-places_of : (α : List ℤ) → in_sector (sector_of α) ≡ in_sector_of α
+pub places_of : (α : List ℤ) → in_sector (sector_of α) ≡ in_sector_of α
 places_of α = λ j i. in_sector-sector_of α i j
 
 pub conditions_at : (p : Polynomial) (α : List ℤ) (field : Field) → MeetsTwoConditions p (sector_of α) field → MeetsConditions p (in_sector_of α) field.a field.b

@@ -20,7 +20,7 @@ pub some_row : (n γ : ℕ) (p : Polynomial) (c : List Polynomial) (b : Polynomi
     → (row : Laurent) × IsIdentityRow n γ p (unstripped (in_sector_of α) c) α struck row × IsCanonical integral_cmp row
 some_row n γ p c b α struck long fits member =
     let a = unstripped (in_sector_of α) c in
-    let terms = shifts (length α) γ a b α in
+    let terms = shifts n γ a b α in
     let sum = normal_form integral_cmp terms in (
       strike struck sum,
       identity_row n γ p a b α struck terms terms sum (strike struck sum) long (length-unstripped 0 (in_sector_of α) c ∙ fits) member (SameCoefficients-refl same_powers terms) refl

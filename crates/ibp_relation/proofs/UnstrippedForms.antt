@@ -1,9 +1,8 @@
 -- The unstripped form of a stripped field, made polynomial by polynomial.
-use Rattle.std.proofs.Common.{◌≡◌, ◌≢◌, ℕ, zero, suc, ◌+◌, ◌*◌, ◌<◌, ◌≤◌, Bool, true, false, if◌then◌else◌, List, [], ◌∷◌, ◌++◌, length, get_or, take, set, sum, Some, replicate, append-nil, sym, refl, ap, subst, ◌∙◌, lit<, arith}
-use Rattle.std.specs.Prelude.{ℤ, pos, ◌<ℤ◌, ◌≤ℤ◌, slice_get}
+use Rattle.std.proofs.Common.{◌≡◌, ◌≢◌, ℕ, zero, suc, ◌+◌, ◌*◌, ◌<◌, ◌≤◌, Bool, true, false, if◌then◌else◌, List, [], ◌∷◌, ◌++◌, length, get_or, take, set, sum, replicate, append-nil, sym, refl, ap, subst, ◌∙◌, lit<, arith}
+use Rattle.std.specs.Prelude.{ℤ}
 use Rattle.std.specs.List.{All}
-use Rattle.std.proofs.lemmas.List.{take_more, take_all, length-take-le, length-set}
-use Rattle.ibp_base.proofs.Tests.{is_false}
+use Rattle.std.proofs.lemmas.List.{take_more, length-take-le, length-set}
 use Rattle.ibp_algebra.specs.FormalSum.{AllKeys, IsCanonical, map_keys, times_term}
 use Rattle.ibp_algebra.specs.Exponents.{add_exponents, deg_rev_lex, same_exponents}
 use Rattle.ibp_algebra.specs.Polynomial.{Polynomial, SamePolynomial, multiply, degree_of}
@@ -17,12 +16,12 @@ use Rattle.mono_order.specs.Monomial.{IsMonomial}
 use Rattle.mono_order.specs.declared.limits.TheConstants.{MONO_DEGREE, RUN_DEGREE, VARIABLES}
 use Rattle.sparse_poly.proofs.Loops.{AreMonomials, IsCanonical-shift}
 use Rattle.family.specs.Shapes.{HasVariables, IsPolynomial, IsField, ArePowers}
-use Rattle.ibp_relation.specs.Conditions.{NoneRises}
+use Rattle.ibp_relation.specs.Conditions.{NoneRises, NoneRisesInModule}
 use Rattle.ibp_relation.specs.Shifts.{HasDegree}
 use Rattle.ibp_relation.proofs.Degrees.{HasDegree-more}
-use Rattle.ibp_relation.proofs.Divisions.{in_sector_when, outside_when}
 use Rattle.ibp_relation.proofs.Rows.{IsIdentity-DoesNotRise}
 use Rattle.ibp_relation.proofs.Outcomes.{not_zero}
+use Rattle.ibp_relation.proofs.SeedSectors.{module_at}
 
 -- ---- one variable
 
@@ -127,9 +126,6 @@ unstripped_step in_sector c items new a f i place h is here made pushed e =
     pushed ∙ (λ j. e j ++ value j ∷ []) ∙ sym (unstripped_append 0 in_sector (take i c) f)
     ∙ ap (λ (g : Polynomial). unstripped in_sector (take i c ++ g ∷ [])) is ∙ ap (unstripped in_sector) (sym (take_more c i f h))
 
-pub unstripped_whole : (in_sector : ℕ → Bool) (c items : List Polynomial) (i : ℕ) → length c ≤ i → items ≡ unstripped in_sector (take i c) → items ≡ unstripped in_sector c
-unstripped_whole in_sector c items i h e = e ∙ ap (unstripped in_sector) (take_all i c h)
-
 pub length-unstripped : (i : ℕ) (in_sector : ℕ → Bool) (c : List Polynomial) → length (unstripped_from i in_sector c) ≡ length c
 length-unstripped i in_sector [] = refl
 length-unstripped i in_sector (f ∷ c) = ap suc (length-unstripped (suc i) in_sector c)
@@ -166,22 +162,16 @@ unstripped_degrees in_sector n c few h = all_unstripped (HasDegree MONO_DEGREE) 
 pub unstripped_canonical : (in_sector : ℕ → Bool) (n : ℕ) (c : List Polynomial) → length c ≤ VARIABLES → All (IsPolynomial n RUN_DEGREE) c → All (IsCanonical deg_rev_lex) (unstripped in_sector c)
 unstripped_canonical in_sector n c few h = all_unstripped (IsCanonical deg_rev_lex) in_sector n 0 c (omega arith) (with_factor_canonical in_sector n) h
 
--- ---- one of them
-
-pub inside_factor : (α : List ℤ) (i : ℕ) (x : ℤ) (f : Polynomial) → slice_get α i ≡ Some x → pos 0 <ℤ x
-    → multiply (variable i) f ≡ (if in_sector_of α i then multiply (variable i) f else f)
-inside_factor α i x f e h = ap (λ v. if v then multiply (variable i) f else f) (sym (in_sector_when α i x e h))
-
-pub outside_factor : (α : List ℤ) (i : ℕ) (x : ℤ) (f : Polynomial) → slice_get α i ≡ Some x → x ≤ℤ pos 0
-    → f ≡ (if in_sector_of α i then multiply (variable i) f else f)
-outside_factor α i x f e h = ap (λ v. if v then multiply (variable i) f else f) (sym (is_false (in_sector_of α i) (outside_when α i x e h)))
-
 -- ---- no power rises
 
-pub candidate_none_rises : (n degree γ : ℕ) (p : Polynomial) (c : List Polynomial) (b : Polynomial) (α : List ℤ) → n ≤ VARIABLES → IsPolynomial n degree p → p ≢ []
+candidate_none_rises : (n degree γ : ℕ) (p : Polynomial) (c : List Polynomial) (b : Polynomial) (α : List ℤ) → n ≤ VARIABLES → IsPolynomial n degree p → p ≢ []
     → IsField n RUN_DEGREE c b → ArePowers n α → IsInModule p (in_sector_of α) c b → NoneRises n γ p (unstripped (in_sector_of α) c) α
 candidate_none_rises n degree γ p c b α few shape some field powers meets r r_powers is β counts =
     let in_sector = in_sector_of α in
     let small : length c ≤ VARIABLES = omega (arith, field.count) in
     IsIdentity-DoesNotRise n γ p (unstripped in_sector c) b α r powers.count (omega (arith, length-unstripped 0 in_sector c, field.count))
     (λ j below. unstripped_canonical in_sector n c small field.polynomials j [] below) (not_zero n degree p few shape some) meets r_powers is β counts
+
+pub none_rises_in_module : (n degree γ : ℕ) (p : Polynomial) (α : List ℤ) → n ≤ VARIABLES → IsPolynomial n degree p → p ≢ [] → ArePowers n α → NoneRisesInModule n γ p α
+none_rises_in_module n degree γ p α few shape some powers field fits member =
+    candidate_none_rises n degree γ p field.c field.b α few shape some fits powers (module_at p α field member)

@@ -4,5 +4,6 @@ pub use Rattle.ibp_algebra.specs.Identity
 pub use Rattle.ibp_algebra.specs.Laurent
 pub use Rattle.sector_lattice.specs.Sectors
 pub mod Shifts
+pub mod Templates
 pub mod Conditions
 pub mod Uniqueness

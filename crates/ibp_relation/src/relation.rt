@@ -1,23 +1,20 @@
-ghost use Rattle.std.specs.Prelude.{◌≡◌, ◌≢◌, ℕ, ◌↔◌, length, All, IfOk, OnOk};
+ghost use Rattle.std.specs.Prelude.{◌≡◌, ◌≢◌, ℕ, ◌↔◌, IfOk, OnOk};
 ghost use Rattle.ibp_algebra.specs.FormalSum.{IsCanonical};
-ghost use Rattle.ibp_algebra.specs.Field.{IsDivided, IsTangent, MeetsConditions, unstripped as unstripped_form};
+ghost use Rattle.ibp_algebra.specs.Field.{IsDivided, IsTangent, unstripped as unstripped_form};
 ghost use Rattle.ibp_algebra.specs.Identity.{in_sector_of, IsIdentityRow};
-ghost use Rattle.mono_order.specs.declared.limits.TheConstants.{MONO_DEGREE, RUN_DEGREE};
+ghost use Rattle.mono_order.specs.declared.limits.TheConstants.{RUN_DEGREE};
 ghost use Rattle.sector_lattice.specs.Sectors.{integral_cmp, sector_of};
 ghost use Rattle.sparse_rows.specs.Rows.{is_zero_integral};
 ghost use Rattle.sparse_poly.specs.declared.limits.TheConstants.{DEGREE_LIMIT};
 ghost use Rattle.family.specs.Conditions.{in_sector, MeetsTwoConditions, IsInSectorModule};
 ghost use Rattle.family.specs.Shapes.{IsField, ArePowers};
 ghost use Rattle.ibp_relation.specs.Conditions.{IsFirstUndivided, NoneRises};
-ghost use Rattle.ibp_relation.specs.Shifts.{HasDegree};
 
 use crate::conditions::{first_undivided, is_tangent};
-use crate::shifts::identity_terms;
-use crate::unstripping::unstripped;
+use crate::template::Template;
 use family::{Family, Field, StrippedField};
 use ibp_base::NoMemory;
 use sector_lattice::Integral;
-use sparse_poly::Poly;
 use sparse_rows::Row;
 use std::alloc::Global;
 
@@ -70,7 +67,8 @@ pub fn identity(
     if !is_tangent(alloc, &family.baikov, a, &field.b)? {
         return Err(IdentityFault::NotTangent);
     }
-    Ok(row_of(alloc, family, a, &field.b, seed)?)
+    let template = Template::of_field(alloc, family, a, &field.b)?;
+    Ok(template.candidate(alloc, family, seed)?)
 }
 
 /// The integration-by-parts identity at a seed of the field that a stripped field of the seed's sector stands
@@ -88,27 +86,6 @@ pub fn candidate(
     ensures canonical { IfOk result (λ row. IsCanonical integral_cmp row) }
     ensures no_rise { NoneRises family.now.n family.now.gamma family.now.baikov (unstripped_form (in_sector_of seed.now) field.now.c) seed.now }
 {
-    let a = unstripped(alloc, field.c.as_slice(), seed)?;
-    row_of(alloc, family, &a, &field.b, seed)
-}
-
-// The row of the identity of a field that meets the two conditions.
-fn row_of(
-    alloc: Global,
-    family: &Family,
-    a: &[Poly],
-    b: &Poly,
-    seed: &Integral,
-) -> Result<Row, NoMemory>
-    requires fits { length a.now ≡ family.now.n }
-    requires seed { ArePowers family.now.n seed.now }
-    requires degrees { All (HasDegree MONO_DEGREE) a.now }
-    requires degree { HasDegree MONO_DEGREE b.now }
-    requires meets { MeetsConditions family.now.baikov (in_sector_of seed.now) a.now b.now }
-    ensures row { IfOk result (λ row. IsIdentityRow family.now.n family.now.gamma family.now.baikov a.now seed.now (is_zero_integral family.now.zero) row) }
-    ensures canonical { IfOk result (λ row. IsCanonical integral_cmp row) }
-{
-    let terms = identity_terms(alloc, family.gamma, a, b, seed)?;
-    let row = Row::from_terms(alloc, &terms)?;
-    row.strike(alloc, family.zero.as_slice())
+    let template = Template::of(alloc, family, seed.sector(), field)?;
+    template.candidate(alloc, family, seed)
 }

@@ -16,7 +16,9 @@ use Rattle.sector_lattice.specs.declared.sector.Sector.{Sector}
 use Rattle.sparse_rows.specs.Rows.{IntegralSum}
 use Rattle.family.specs.Within.{DataWithin}
 use Rattle.family.specs.FamilyData.{FamilyData}
-use Rattle.relation_pick.specs.Picking.{IsPick}
+use Rattle.ibp_algebra.specs.FormalSum.{map_keys}
+use Rattle.relation_pick.specs.Bases.{place_at}
+use Rattle.relation_pick.specs.Picking.{IsPick, rows_at}
 use Rattle.system_text.specs.declared.value.System.{System}
 use Rattle.family.specs.FamilyView.{family_view}
 use Rattle.family.specs.declared.family.Family.{Family}
@@ -36,8 +38,9 @@ use Rattle.neat_system.specs.declared.gathering.Gathered.{Gathered}
 use Rattle.neat_system.specs.Answer.{fault_in, IsAnswer}
 use Rattle.target_rows.specs.Reductions.{declared_row}
 use Rattle.neat_system.proofs.OneSystem.{IsUnworked, worked_alone}
-use Rattle.neat_system.specs.Gathering.{IsPieceOf, IsWorkedPiece, IsWorkOf, IsFirstFault, Gathers, Writes}
-use Rattle.neat_system.specs.System.{AreBooks, SectorWork, IsWorkFor, IsSectorWork, sectors_of, AreWorks, relation_at, IsSystem, IsWorkedOut, IsFault}
+use Rattle.neat_system.proofs.MovedPicks.{moved_pick}
+use Rattle.neat_system.specs.Gathering.{IsPieceOf, IsWorkedPiece, IsWorkOf, IsOwnWork, IsFirstFault, Gathers, Writes}
+use Rattle.neat_system.specs.System.{AreBooks, SectorWork, IsWorkFor, IsSectorWork, sectors_of, AreWorks, all_candidates, all_labels, relation_at, IsSystem, IsWorkedOut, IsFault}
 
 abbrev pub pieces_sectors : List ResultValue → List ℕ
 pieces_sectors pieces = map (λ piece. piece.sector.0) pieces
@@ -81,6 +84,13 @@ each_is_work family books [] [] targets all = tt
 each_is_work family books [] (work ∷ works) targets all = absurd all
 each_is_work family books (piece ∷ pieces) [] targets all = absurd all
 each_is_work family books (piece ∷ pieces) (work ∷ works) targets all = (for_book family books piece work targets.0 all.0, each_is_work family books pieces works targets.1 all.1)
+
+-- what a piece of the family comes to is a work of the family
+own_works : (family : FamilyData) (pieces : List ResultValue) (works : List SectorWork) → AllByRecursion (IsPieceOf family) pieces → AllZip IsOwnWork pieces works → AllZip (IsWorkOf family) pieces works
+own_works family [] [] plans all = tt
+own_works family [] (work ∷ works) plans all = absurd all
+own_works family (piece ∷ pieces) [] plans all = absurd all
+own_works family (piece ∷ pieces) (work ∷ works) plans all = (subst (λ (f : FamilyData). IsWorkOf f piece work) plans.0 all.0, own_works family pieces works plans.1 all.1)
 
 module _ (family : FamilyData) (books : List Integral) (pieces : List ResultValue) (closed : IsClosedWith family books pieces) where
   done_is_reached : (sector : ℕ) → Contains (pieces_sectors pieces) sector → IsReached sector books
@@ -185,19 +195,25 @@ module _ (family : FamilyData) (books : List Integral) (pieces : List ResultValu
     pub fault_answers : IsAnswer family (Err fault)
     fault_answers = told first.piece.sector first.piece.outcome first.has is_fault
 
-  pub system_is : (gathered : Gathered) (system : System) → Gathers family pieces gathered → Writes family gathered system → IsSystem family system
-  system_is gathered system gathers writes = record {
-    books = books;
-    are_books = closed.are_books;
-    works = gathers.works;
-    are_works = are_works gathers.works gathers.are_works;
-    written = writes.written;
-    forms = writes.forms;
-    weights = writes.weights;
-    pick = subst (λ (cs : List IntegralSum). IsPick integral_cmp cs (map (declared_row family) family.targets) writes.written writes.forms writes.weights) gathers.candidates writes.pick;
-    name = writes.name;
-    n = writes.n;
-    sectors = writes.sectors ∙ gathers.blocks;
-    relations = writes.relations ∙ (λ i. map (relation_at (gathers.labels i) (gathers.candidates i)) writes.written);
-    reductions = writes.reductions;
-  }
+  pub system_is : (gathered : Gathered) (system : System) → Gathers pieces gathered → Writes family gathered system → IsSystem family system
+  system_is gathered system gathers writes =
+      let all = all_candidates gathers.works in
+      let here : IsPick integral_cmp (rows_at all gathers.places) (map (declared_row family) family.targets) writes.written writes.forms writes.weights =
+      subst (λ (cs : List IntegralSum). IsPick integral_cmp cs (map (declared_row family) family.targets) writes.written writes.forms writes.weights) gathers.candidates writes.pick
+      in
+      let moved = moved_pick family all gathers.places gathers.covers writes.written writes.forms writes.weights here in
+      record {
+        books = books;
+        are_books = closed.are_books;
+        works = gathers.works;
+        are_works = are_works gathers.works (own_works family pieces gathers.works (recursion_from_All (IsPieceOf family) pieces closed.plans) gathers.are_works);
+        written = map (place_at gathers.places) writes.written;
+        forms = writes.forms;
+        weights = map (map_keys (place_at gathers.places)) writes.weights;
+        pick = moved.pick;
+        name = writes.name;
+        n = writes.n;
+        sectors = writes.sectors ∙ gathers.blocks;
+        relations = writes.relations ∙ (λ i. map (relation_at (gathers.labels i) (gathers.candidates i)) writes.written) ∙ moved.relations (all_labels gathers.works);
+        reductions = writes.reductions ∙ moved.reductions;
+      }

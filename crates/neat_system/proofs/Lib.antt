@@ -1,6 +1,9 @@
 pub mod Answering
 pub mod ClosedRelay
 pub mod GatheredWorks
+pub mod LabelPlaces
+pub mod MovedPicks
+pub mod MovedPlaces
 pub mod FewRelations
 pub mod Lengths
 pub mod OneSystem

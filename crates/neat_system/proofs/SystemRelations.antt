@@ -17,6 +17,7 @@ use Rattle.sparse_poly.specs.declared.limits.TheConstants.{DEGREE_LIMIT}
 use Rattle.relay_core.specs.Family.{book}
 use Rattle.sector_module.specs.SectorBasis.{IsSectorBasis}
 use Rattle.sector_job.specs.Candidates.{Integral, Label, labels, labels_at, IsCandidate, field_numbered}
+use Rattle.sector_job.proofs.Listing.{zip_append}
 use Rattle.system_text.specs.declared.value.SectorBlock.{SectorBlock}
 use Rattle.system_text.specs.declared.value.System.{System}
 use Rattle.system_text.specs.declared.value.Written.{Written}
@@ -30,19 +31,13 @@ use Rattle.neat_system.proofs.WorkSeeds.{seeds_of}
 
 -- ---- lists that go together
 
-zip_join : {A B : Type 0} (R : A → B → Type 0) (xs us : List A) (ys vs : List B) → AllZip R xs ys → AllZip R us vs → AllZip R (xs ++ us) (ys ++ vs)
-zip_join R [] us [] vs h k = k
-zip_join R [] us (y ∷ ys) vs h k = absurd h
-zip_join R (x ∷ xs) us [] vs h k = absurd h
-zip_join R (x ∷ xs) us (y ∷ ys) vs h k = (h.0, zip_join R xs us ys vs h.1 k)
-
-zip_weaker : {A B : Type 0} (R S : A → B → Type 0) (P : A → Type 0) → ((x : A) (y : B) → P x → R x y → S x y) → (xs : List A) (ys : List B) → AllByRecursion P xs → AllZip R xs ys → AllZip S xs ys
+pub zip_weaker : {A B : Type 0} (R S : A → B → Type 0) (P : A → Type 0) → ((x : A) (y : B) → P x → R x y → S x y) → (xs : List A) (ys : List B) → AllByRecursion P xs → AllZip R xs ys → AllZip S xs ys
 zip_weaker R S P h [] [] each zip = tt
 zip_weaker R S P h [] (y ∷ ys) each zip = absurd zip
 zip_weaker R S P h (x ∷ xs) [] each zip = absurd zip
 zip_weaker R S P h (x ∷ xs) (y ∷ ys) each zip = (h x y each.0 zip.0, zip_weaker R S P h xs ys each.1 zip.1)
 
-zip_at : {A B : Type 0} (R : A → B → Type 0) (xs : List A) (ys : List B) → AllZip R xs ys → (k : ℕ) (d : A) (e : B) → k < length ys → R (get_or xs k d) (get_or ys k e)
+pub zip_at : {A B : Type 0} (R : A → B → Type 0) (xs : List A) (ys : List B) → AllZip R xs ys → (k : ℕ) (d : A) (e : B) → k < length ys → R (get_or xs k d) (get_or ys k e)
 zip_at R [] [] h k d e below = absurd (omega arith)
 zip_at R [] (y ∷ ys) h k d e below = absurd h
 zip_at R (x ∷ xs) [] h k d e below = absurd h
@@ -51,10 +46,10 @@ zip_at R (x ∷ xs) (y ∷ ys) h (suc k) d e below = zip_at R xs ys h.1 k d e (o
 
 -- ---- labels
 
-record IsLabelOf (count : ℕ) (seeds : List Integral) (label : Label) : Type 0 where
-  at_seed : Contains seeds label.seed
-  from_one : 1 ≤ label.field
-  within : label.field ≤ count
+pub record IsLabelOf (count : ℕ) (seeds : List Integral) (label : Label) : Type 0 where
+  pub at_seed : Contains seeds label.seed
+  pub from_one : 1 ≤ label.field
+  pub within : label.field ≤ count
 
 each_number : (count : ℕ) (seeds : List Integral) (seed : Integral) → Contains seeds seed → (first n : ℕ) → 1 ≤ first → first + n ≤ count + 1
     → AllByRecursion (IsLabelOf count seeds) (map (λ number. record { seed = seed; field = number }) (range_with_len first n))
@@ -68,7 +63,7 @@ join : {A : Type 0} (P : A → Type 0) (xs ys : List A) → AllByRecursion P xs 
 join P [] ys h k = k
 join P (x ∷ xs) ys h k = (h.0, join P xs ys h.1 k)
 
-each_label : (count : ℕ) (whole seeds : List Integral) → ((z : Integral) → Contains seeds z → Contains whole z) → AllByRecursion (IsLabelOf count whole) (labels count seeds)
+pub each_label : (count : ℕ) (whole seeds : List Integral) → ((z : Integral) → Contains seeds z → Contains whole z) → AllByRecursion (IsLabelOf count whole) (labels count seeds)
 each_label count whole [] h = tt
 each_label count whole (seed ∷ seeds) h =
     join (IsLabelOf count whole) (labels_at count seed) (labels count seeds)
@@ -98,7 +93,7 @@ module _ (family : FamilyData) (books : List Integral) where
   of_works : (whole works : List SectorWork) → ((w : SectorWork) → Contains works w → Contains whole w) → ((w : SectorWork) → Contains works w → IsSectorWork family books w) → AllZip (IsOfWork whole) (all_labels works) (all_candidates works)
   of_works whole [] inside each = tt
   of_works whole (work ∷ works) inside each =
-      zip_join (IsOfWork whole) (labels (length work.fields) work.seeds) (all_labels works) work.candidates (all_candidates works)
+      zip_append (IsOfWork whole) (labels (length work.fields) work.seeds) (all_labels works) work.candidates (all_candidates works)
       (of_one whole work (inside work (in_head work works work refl)) (each work (in_head work works work refl)))
       (of_works whole works (λ w there. inside w (in_tail work works w there)) (λ w there. each w (in_tail work works w there)))
 

@@ -4,8 +4,10 @@
 --     fault_of                  the fault of a piece that isn't worked
 --     IsWorkedPiece             the piece is right, and worked
 --     IsWorkOf                  what the piece's sector comes to for the piece's targets
---     Gains                     one more work is gathered
---     Gathers                   the works of these pieces are gathered, each in turn
+--     IsOwnWork                 the same for the piece's own family
+--     label_at                  the label at a place
+--     Gains                     one more work is gathered, with its candidates at places that cover all of them
+--     Gathers                   the works of these pieces are gathered, each in turn, with candidates at such places
 --     IsFirstFault              the fault of the first piece that has one
 --     Writes                    a system of what is gathered
 -- Source: lists joined in sector order, as NeatIBP of Wu, Böhm, Ma, Xu and Zhang does it.
@@ -16,7 +18,8 @@ use Rattle.sector_lattice.specs.Sectors.{integral_cmp}
 use Rattle.sparse_rows.specs.Rows.{IntegralSum}
 use Rattle.family.specs.FamilyData.{FamilyData}
 use Rattle.family.specs.FamilyView.{family_view}
-use Rattle.relation_pick.specs.Picking.{IsPick}
+use Rattle.relation_pick.specs.Bases.{Covers}
+use Rattle.relation_pick.specs.Picking.{IsPick, rows_at}
 use Rattle.sector_job.specs.Candidates.{Label as LabelData, labels}
 use Rattle.sector_job.specs.Results.{ResultValue, IsResult}
 use Rattle.system_text.specs.declared.value.System.{System}
@@ -47,19 +50,29 @@ pub record IsWorkOf (family : FamilyData) (piece : ResultValue) (work : SectorWo
   pub of_sector : work.sector ≡ piece.sector.0
   pub is_work : IsWorkFor family piece.targets work
 
-pub record Gains (family : FamilyData) (piece : ResultValue) (old new : Gathered) : Type 0 where
-  pub work : SectorWork
-  pub is_work : IsWorkOf family piece work
-  pub blocks : new.blocks.items ≡ old.blocks.items ++ block_of work ∷ []
-  pub labels : label_views new.labels.items ≡ label_views old.labels.items ++ labels (length work.fields) work.seeds
-  pub candidates : new.candidates.items ≡ old.candidates.items ++ work.candidates
+abbrev pub IsOwnWork : ResultValue → SectorWork → Type 0
+IsOwnWork piece work = IsWorkOf (family_view piece.plan) piece work
 
-pub record Gathers (family : FamilyData) (pieces : List ResultValue) (gathered : Gathered) : Type 0 where
+abbrev pub label_at : List LabelData → ℕ → LabelData
+label_at labels place = slice_index_or labels place (record { seed = []; field = 0 })
+
+pub record Gains (piece : ResultValue) (old new : Gathered) : Type 0 where
+  pub work : SectorWork
+  pub is_work : IsOwnWork piece work
+  pub places : List ℕ
+  pub covers : Covers integral_cmp work.candidates places
+  pub blocks : new.blocks.items ≡ old.blocks.items ++ block_of work ∷ []
+  pub labels : label_views new.labels.items ≡ label_views old.labels.items ++ map (label_at (labels (length work.fields) work.seeds)) places
+  pub candidates : new.candidates.items ≡ old.candidates.items ++ rows_at work.candidates places
+
+pub record Gathers (pieces : List ResultValue) (gathered : Gathered) : Type 0 where
   pub works : List SectorWork
-  pub are_works : AllZip (IsWorkOf family) pieces works
+  pub are_works : AllZip IsOwnWork pieces works
+  pub places : List ℕ
+  pub covers : Covers integral_cmp (all_candidates works) places
   pub blocks : gathered.blocks.items ≡ map block_of works
-  pub labels : label_views gathered.labels.items ≡ all_labels works
-  pub candidates : gathered.candidates.items ≡ all_candidates works
+  pub labels : label_views gathered.labels.items ≡ map (label_at (all_labels works)) places
+  pub candidates : gathered.candidates.items ≡ rows_at (all_candidates works) places
 
 pub record IsFirstFault (pieces : List ResultValue) (fault : SystemFault) : Type 0 where
   pub place : ℕ

@@ -104,7 +104,7 @@ fn answer<P: Picking>(
         return Err(fault);
     }
     let family = state.plan().family();
-    let gathered = gather(alloc, family, state.pieces())?;
+    let gathered = gather(alloc, state.pieces())?;
     let system = system_of(alloc, picking, family, gathered)?;
     Ok(system)
 }

@@ -1,7 +1,7 @@
 // What candidates are made from.
-ghost use Rattle.std.specs.Prelude.{◌≡◌, ◌<◌, ◌^◌, ◌*◌, ◌++◌, OnOk, length};
-ghost use Rattle.sector_job.specs.Candidates.{labels, labels_at};
-ghost use Rattle.neat_system.specs.Gathering.{label_views};
+ghost use Rattle.std.specs.Prelude.{◌≡◌, ◌<◌, ◌^◌, ◌*◌, ◌++◌, OnOk, All, length, map};
+ghost use Rattle.sector_job.specs.Candidates.{labels};
+ghost use Rattle.neat_system.specs.Gathering.{label_view, label_views, label_at};
 
 use ibp_base::NoMemory;
 use sector_lattice::Integral;
@@ -15,26 +15,32 @@ pub struct Label {
     pub field: u32,
 }
 
-// Adds the labels of a seed with each of so many fields.
-fn add_labels_at(found: &mut Vec<Label>, fields: u32, seed: &Integral) -> Result<(), NoMemory>
-    ensures { OnOk result (label_views found.new.items ≡ label_views found.old.items ++ labels_at fields seed.now) }
+// What the candidate at this place is made from, of those of so many fields at these seeds: lowest seed first, and at
+// each seed that of each field in turn.
+fn label_at(fields: usize, seeds: &[Integral], place: usize) -> Label
+    requires few { fields * length seeds.now < 2 ^ 32 }
+    requires within { place < fields * length seeds.now }
+    ensures { label_view result ≡ label_at (labels fields seeds.now) place }
 {
-    for field in 0..fields {
-        found.push(Label {
-            seed: *seed,
-            field: field + 1,
-        })?;
+    Label {
+        seed: seeds[place / fields],
+        field: (place % fields) as u32 + 1,
     }
-    Ok(())
 }
 
-/// Adds the labels of each seed with each of so many fields.
-pub fn add_labels(found: &mut Vec<Label>, fields: usize, seeds: &[Integral]) -> Result<(), NoMemory>
+/// Adds what the candidates at these places are made from, of those of so many fields at these seeds.
+pub fn add_labels(
+    found: &mut Vec<Label>,
+    fields: usize,
+    seeds: &[Integral],
+    places: &[u32],
+) -> Result<(), NoMemory>
     requires few { fields * length seeds.now < 2 ^ 32 }
-    ensures { OnOk result (label_views found.new.items ≡ label_views found.old.items ++ labels fields seeds.now) }
+    requires within { All (λ place. place < fields * length seeds.now) places.now }
+    ensures { OnOk result (label_views found.new.items ≡ label_views found.old.items ++ map (label_at (labels fields seeds.now)) places.now) }
 {
-    for seed in seeds {
-        add_labels_at(found, fields as u32, seed)?;
+    for place in places {
+        found.push(label_at(fields, seeds, *place as usize))?;
     }
     Ok(())
 }

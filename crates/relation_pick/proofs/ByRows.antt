@@ -29,7 +29,7 @@ pub combination-map_keys : {K : Type 0} (row : ℕ → FormalSum K) (move : ℕ 
 combination-map_keys row move [] = refl
 combination-map_keys row move (t ∷ weights) = ap (λ rest. scale t.1 (row (move t.0)) ++ rest) (combination-map_keys row move weights)
 
-AllKeys-map_keys : (P : ℕ → Type 0) (move : ℕ → ℕ) (weights : FormalSum ℕ) → AllKeys (λ k. P (move k)) weights → AllKeys P (map_keys move weights)
+pub AllKeys-map_keys : (P : ℕ → Type 0) (move : ℕ → ℕ) (weights : FormalSum ℕ) → AllKeys (λ k. P (move k)) weights → AllKeys P (map_keys move weights)
 AllKeys-map_keys P move [] h = tt
 AllKeys-map_keys P move (t ∷ weights) h = (h.0, AllKeys-map_keys P move weights h.1)
 
@@ -45,7 +45,7 @@ module _ {K : Type 0} (order : K → K → Ordering) (total : IsTotalOrder order
   abbrev number : ℕ → ℕ
   number i = get_or written i 0
 
-  many : length rows ≡ length written
+  pub many : length rows ≡ length written
   many = length-map written (row_at candidates)
 
   pub row_is : (i : ℕ) → i < length written → row_at rows i ≡ row_at candidates (number i)
@@ -57,7 +57,7 @@ module _ {K : Type 0} (order : K → K → Ordering) (total : IsTotalOrder order
       (λ i p. subst (SpanOf order candidates Q) (sym (row_is i (h i p).0)) (InSpan-row order total unique (row_at candidates) Q (number i) (h i p).1))
       member
 
-  span_from : (P Q : ℕ → Type 0) → ((k : ℕ) → Q k → Contains written k × P (place_of written k)) → (f : FormalSum K) → SpanOf order candidates Q f → SpanOf order rows P f
+  pub span_from : (P Q : ℕ → Type 0) → ((k : ℕ) → Q k → Contains written k × P (place_of written k)) → (f : FormalSum K) → SpanOf order candidates Q f → SpanOf order rows P f
   span_from P Q h f member =
       InSpan-trans order total unique (row_at rows) P (row_at candidates) Q
       (λ k q.
@@ -67,10 +67,10 @@ module _ {K : Type 0} (order : K → K → Ordering) (total : IsTotalOrder order
       member
 
   -- the rows span what the candidates at these places span
-  whole_to : (f : FormalSum K) → WholeSpan order rows f → SpanOf order candidates (Contains written) f
+  pub whole_to : (f : FormalSum K) → WholeSpan order rows f → SpanOf order candidates (Contains written) f
   whole_to = span_to (λ i. i < length rows) (Contains written) (λ i below. (omega (arith, many), Contains-get_or written i 0 (omega (arith, many))))
 
-  whole_from : (f : FormalSum K) → SpanOf order candidates (Contains written) f → WholeSpan order rows f
+  pub whole_from : (f : FormalSum K) → SpanOf order candidates (Contains written) f → WholeSpan order rows f
   whole_from = span_from (λ i. i < length rows) (Contains written) (λ k inside. (inside, (let at = at_place_of written k up inside in omega (arith, many, at.0))))
 
   pub whole_form : (target form : FormalSum K) → IsReducedForm order (SpanOf order candidates (Contains written)) target form → IsReducedForm order (WholeSpan order rows) target form

@@ -7,7 +7,7 @@ ghost use Rattle.relation_pick.specs.Kept.{AnswersBy};
 ghost use Rattle.relation_pick.specs.Picking.{IsPick, rows_at, IsIrredundant};
 
 use crate::parts::{PARTS, piece_size};
-use crate::picking::{Answers, Picked, echelon_of, picked_by, reduce_each};
+use crate::picking::{Answers, Picked, basis_of, picked_by, reduce_each};
 use ibp_base::NoMemory;
 use row_echelon::Echelon;
 use sparse_rows::Row;
@@ -61,7 +61,7 @@ pub fn pick_wide<R: Threads + Sync>(
     ensures pick { IfOk result (λ picked. IsPick integral_cmp candidates.now targets.now picked.written picked.reductions picked.weights) }
     ensures irredundant { IfOk result (λ picked. IsIrredundant integral_cmp candidates.now targets.now (rows_at candidates.now picked.written)) }
 {
-    let echelon = echelon_of(alloc, candidates)?;
-    let answers = reduce_at_once(rt, alloc, &echelon, targets, parts)?;
+    let basis = basis_of(alloc, candidates)?;
+    let answers = reduce_at_once(rt, alloc, &basis.echelon, targets, parts)?;
     picked_by(alloc, candidates, targets, answers)
 }

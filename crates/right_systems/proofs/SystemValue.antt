@@ -27,10 +27,10 @@ use Rattle.neat_system.specs.Headline.{IsIdentityIn}
 use Rattle.neat_system.specs.System.{SectorWork, sectors_of, all_candidates, all_labels, block_of, relation_at, IsSystem}
 use Rattle.neat_system.proofs.FewRelations.{few_relations}
 use Rattle.neat_system.proofs.Lengths.{few_pieces}
-use Rattle.neat_system.proofs.SystemRelations.{are_identities}
+use Rattle.neat_system.proofs.SystemRelations.{are_identities, zip_at}
 use Rattle.neat_system.proofs.SystemRows.{reduces_as_all}
 use Rattle.right_systems.proofs.ReductionValues.{are_reductions}
-use Rattle.right_systems.proofs.WorkRows.{IsLabelled, zip_at, reached_below, work_fields, few_fields, work_of, works_labelled}
+use Rattle.right_systems.proofs.WorkRows.{IsLabelled, reached_below, work_fields, few_fields, work_of, works_labelled}
 
 module _ (family : FamilyData) (within : DataWithin family) (system : System) (is : IsSystem family system) where
   abbrev candidates : List IntegralSum

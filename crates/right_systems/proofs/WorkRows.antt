@@ -1,7 +1,7 @@
 -- The sectors of a family's works, their fields, and the labels with the rows of their candidates.
-use Rattle.std.proofs.Common.{◌≡◌, ℕ, zero, suc, ◌+◌, ◌-◌, ◌*◌, ◌^◌, ◌<◌, ◌≤◌, inl, inr, List, [], ◌∷◌, ◌++◌, length, get_or, map, refl, sym, subst, ◌∙◌, arith}
+use Rattle.std.proofs.Common.{◌≡◌, ℕ, zero, suc, ◌+◌, ◌-◌, ◌*◌, ◌^◌, ◌<◌, ◌≤◌, inl, inr, List, [], ◌∷◌, length, refl, sym, subst, ◌∙◌, arith}
 use Rattle.std.specs.Prelude.{Contains}
-use Rattle.std.specs.List.{All, AllByRecursion, AllZip, range_with_len}
+use Rattle.std.specs.List.{All, AllZip}
 use Rattle.std.proofs.lemmas.List.Elements.{All-contains}
 use Rattle.ibp_base.proofs.Members.{in_head, in_tail, in_map}
 use Rattle.mono_order.specs.declared.limits.TheConstants.{RUN_DEGREE}
@@ -18,7 +18,7 @@ use Rattle.family.specs.Within.{DataWithin}
 use Rattle.family.proofs.CapsWithin.{caps_of-within}
 use Rattle.relay_core.specs.Family.{book, IsReached}
 use Rattle.relay_core.proofs.SectorBooks.{a_member}
-use Rattle.sector_job.specs.Candidates.{Integral, Label, labels, labels_at, IsCandidate, AreSeedsFor, field_numbered, dots_bound, rank_bound}
+use Rattle.sector_job.specs.Candidates.{Integral, Label, labels, IsCandidate, AreSeedsFor, field_numbered, dots_bound, rank_bound}
 use Rattle.sector_job.specs.PieceLaws.{opened, lawful}
 use Rattle.sector_job.proofs.Listing.{zip_append}
 use Rattle.sector_job.proofs.SeedPowers.{seed_powers}
@@ -27,51 +27,11 @@ use Rattle.neat_system.specs.System.{AreBooks, SectorWork, IsSectorWork, AreWork
 use Rattle.neat_system.proofs.BasisFields.{basis_member}
 use Rattle.neat_system.proofs.Lengths.{within_budget}
 use Rattle.neat_system.proofs.OneSystem.{family_with}
+use Rattle.neat_system.proofs.SystemRelations.{zip_weaker, IsLabelOf, each_label}
 use Rattle.neat_system.proofs.WorkSeeds.{seeds_of}
 use Rattle.right_systems.proofs.Corners.{corner, corner_seed}
 use Rattle.right_systems.proofs.RowIntegrals.{candidate_row}
 use Rattle.right_systems.proofs.SectorDegrees.{fields_within}
-
--- ---- lists that go together
-
-zip_weaker : {A B : Type 0} (R S : A → B → Type 0) (P : A → Type 0) → ((x : A) (y : B) → P x → R x y → S x y) → (xs : List A) (ys : List B) → AllByRecursion P xs → AllZip R xs ys → AllZip S xs ys
-zip_weaker R S P h [] [] each zip = tt
-zip_weaker R S P h [] (y ∷ ys) each zip = absurd zip
-zip_weaker R S P h (x ∷ xs) [] each zip = absurd zip
-zip_weaker R S P h (x ∷ xs) (y ∷ ys) each zip = (h x y each.0 zip.0, zip_weaker R S P h xs ys each.1 zip.1)
-
-pub zip_at : {A B : Type 0} (R : A → B → Type 0) (xs : List A) (ys : List B) → AllZip R xs ys → (k : ℕ) (d : A) (e : B) → k < length ys → R (get_or xs k d) (get_or ys k e)
-zip_at R [] [] h k d e below = absurd (omega arith)
-zip_at R [] (y ∷ ys) h k d e below = absurd h
-zip_at R (x ∷ xs) [] h k d e below = absurd h
-zip_at R (x ∷ xs) (y ∷ ys) h zero d e below = h.0
-zip_at R (x ∷ xs) (y ∷ ys) h (suc k) d e below = zip_at R xs ys h.1 k d e (omega arith)
-
--- ---- labels
-
-record IsLabelOf (count : ℕ) (seeds : List Integral) (label : Label) : Type 0 where
-  at_seed : Contains seeds label.seed
-  from_one : 1 ≤ label.field
-  within : label.field ≤ count
-
-each_number : (count : ℕ) (seeds : List Integral) (seed : Integral) → Contains seeds seed → (first n : ℕ) → 1 ≤ first → first + n ≤ count + 1
-    → AllByRecursion (IsLabelOf count seeds) (map (λ number. record { seed = seed; field = number }) (range_with_len first n))
-each_number count seeds seed inside first zero low high = tt
-each_number count seeds seed inside first (suc n) low high = (
-  record { at_seed = inside; from_one = low; within = omega arith },
-  each_number count seeds seed inside (first + 1) n (omega arith) (omega arith),
-)
-
-join : {A : Type 0} (P : A → Type 0) (xs ys : List A) → AllByRecursion P xs → AllByRecursion P ys → AllByRecursion P (xs ++ ys)
-join P [] ys h k = k
-join P (x ∷ xs) ys h k = (h.0, join P xs ys h.1 k)
-
-each_label : (count : ℕ) (whole seeds : List Integral) → ((z : Integral) → Contains seeds z → Contains whole z) → AllByRecursion (IsLabelOf count whole) (labels count seeds)
-each_label count whole [] h = tt
-each_label count whole (seed ∷ seeds) h =
-    join (IsLabelOf count whole) (labels_at count seed) (labels count seeds)
-    (each_number count whole seed (h seed (in_head seed seeds seed refl)) 1 count (omega arith) (omega arith))
-    (each_label count whole seeds (λ z inside. h z (in_tail seed seeds z inside)))
 
 some_of : {A : Type 0} (xs : List A) (x : A) → Contains xs x → 1 ≤ length xs
 some_of xs x inside = omega (arith, inside.1)

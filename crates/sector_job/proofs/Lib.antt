@@ -1,6 +1,7 @@
 pub mod Greatest
 pub mod SeedPowers
 pub mod Listing
+pub mod FieldTemplates
 pub mod HandedDown
 pub mod Steps
 pub mod Opening

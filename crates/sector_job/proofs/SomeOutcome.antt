@@ -22,7 +22,7 @@ use Rattle.family.specs.declared.parts.StrippedField.{StrippedField}
 use Rattle.module_vec.specs.ModuleVector.{ModuleVector}
 use Rattle.module_basis.specs.PlainRun.{RunEnd, Done, PairsSpent as RunSpent, DegreeOver as RunOver}
 use Rattle.relation_pick.proofs.SomePick.{some_answers}
-use Rattle.relation_pick.proofs.Forms.{AllForms-from_answers}
+use Rattle.relation_pick.proofs.FormsInTurn.{AllForms-from_answers}
 use Rattle.relay_core.proofs.Told.{all_taken_in}
 use Rattle.sector_module.proofs.SomeBasis.{IsMemberField, some_run_end, some_sector_basis}
 use Rattle.sector_job.specs.Candidates.{Integral, Label, labels_at, labels, field_numbered, IsCandidate, AreCandidates, AreSeedsFor, AreTails, target_row, dots_bound, rank_bound}

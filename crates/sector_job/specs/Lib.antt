@@ -8,6 +8,7 @@ pub use Rattle.sector_lattice.specs.Ranges
 pub use Rattle.sector_lattice.specs.Seeds
 pub use Rattle.sparse_rows.specs.Rows
 pub mod Candidates
+pub mod FieldTemplates
 pub mod Outcomes
 pub mod Results
 pub mod CandidateRows

@@ -1,17 +1,19 @@
 // The candidates of a sector, row by row, and how they are listed.
 ghost use denote.Param.Send.{IsSync};
-ghost use Rattle.std.specs.Prelude.{◌≡◌, ◌≤◌, length, IfOk};
-ghost use Rattle.std.specs.List.{All, AllZip};
+ghost use Rattle.std.specs.Prelude.{◌≡◌, ◌≤◌, IfOk};
+ghost use Rattle.std.specs.List.{All};
 ghost use Rattle.mono_order.specs.declared.limits.TheConstants.{RUN_DEGREE};
 ghost use Rattle.family.specs.Shapes.{IsField, ArePowers};
 ghost use Rattle.family.specs.Conditions.{IsInSectorModule};
 ghost use Rattle.family.specs.FamilyView.{family_view};
 ghost use Rattle.sector_lattice.specs.Sectors.{sector_of};
-ghost use Rattle.sector_job.specs.Candidates.{labels_at, field_numbered, IsCandidate, AreCandidates};
+ghost use Rattle.ibp_relation.specs.Templates.{FitsSeeds};
+ghost use Rattle.sector_job.specs.Candidates.{AreCandidates};
+ghost use Rattle.sector_job.specs.FieldTemplates.{AreTemplates, AreCandidatesAt, AreCandidatesOf};
 
 use family::{Family, StrippedField};
 use ibp_base::NoMemory;
-use ibp_relation::candidate;
+use ibp_relation::Template;
 use relation_pick::{AtOnce, InTurn, piece_size};
 use sector_lattice::{Integral, Sector};
 use sparse_rows::Row;
@@ -90,11 +92,12 @@ fn candidates_at_once<R: Threads + Sync>(
     requires some { 1 ≤ parts }
     ensures { IfOk result (λ rows. AreCandidates (family_view family.now) fields.now seeds.now rows.items) }
 {
+    let templates = all_templates(alloc, family, sector, fields)?;
     let size = piece_size(seeds.len(), parts);
     let listed = |_start: usize, piece: &[Integral]| -> Result<Vec<Row>, NoMemory>
-        requires { All (λ field. IsField family.now.n RUN_DEGREE field.c field.b) fields.now × All (IsInSectorModule family.now.baikov sector.0) fields.now × All (ArePowers family.now.n) piece.now × All (λ seed. sector_of seed ≡ sector.0) piece.now }
-        ensures { IfOk result (λ rows. AreCandidates (family_view family.entry.now) fields.entry.now piece.now rows.items) }
-    { all_candidates(alloc, family, sector, fields, piece) };
+        requires { All (ArePowers family.now.n) piece.now × All (All (FitsSeeds family.now.n)) templates.items }
+        ensures { IfOk result (λ rows. AreCandidatesOf (family_view family.entry.now) templates.items piece.now rows.items) }
+    { candidates_of(alloc, family, &templates, piece) };
     let pieces = thread::map_chunks(rt, alloc, seeds, size, &listed)?;
     let mut rows = Vec::new(alloc);
     for piece in pieces {
@@ -119,31 +122,60 @@ pub fn all_candidates(
     requires of_sector { All (λ seed. sector_of seed ≡ sector.0) seeds.now }
     ensures { IfOk result (λ rows. AreCandidates (family_view family.now) fields.now seeds.now rows.items) }
 {
+    let templates = all_templates(alloc, family, sector, fields)?;
+    candidates_of(alloc, family, &templates, seeds)
+}
+
+// The templates of the fields of a sector.
+fn all_templates(
+    alloc: Global,
+    family: &Family,
+    sector: Sector,
+    fields: &[StrippedField],
+) -> Result<Vec<Template>, NoMemory>
+    requires { All (λ field. IsField family.now.n RUN_DEGREE field.c field.b) fields.now }
+    ensures { IfOk result (λ templates. AreTemplates (family_view family.now) sector.0 fields.now templates.items) }
+{
+    let mut templates = Vec::new(alloc);
+    for field in fields {
+        templates.push(Template::of(alloc, family, sector, field)?)?;
+    }
+    Ok(templates)
+}
+
+// The candidates of the fields with these templates at the seeds of their sector.
+fn candidates_of(
+    alloc: Global,
+    family: &Family,
+    templates: &[Template],
+    seeds: &[Integral],
+) -> Result<Vec<Row>, NoMemory>
+    requires fits { All (All (FitsSeeds family.now.n)) templates.now }
+    requires powers { All (ArePowers family.now.n) seeds.now }
+    ensures { IfOk result (λ rows. AreCandidatesOf (family_view family.now) templates.now seeds.now rows.items) }
+{
     let mut rows = Vec::new(alloc);
     for seed in seeds {
-        let mut more = candidates_at(alloc, family, sector, fields, seed)?;
+        let mut more = candidates_at(alloc, family, templates, seed)?;
         rows.append(&mut more)?;
     }
     Ok(rows)
 }
 
-/// The candidates at one seed.
-pub fn candidates_at(
+// The candidates at one seed.
+fn candidates_at(
     alloc: Global,
     family: &Family,
-    sector: Sector,
-    fields: &[StrippedField],
+    templates: &[Template],
     seed: &Integral,
 ) -> Result<Vec<Row>, NoMemory>
-    requires shape { All (λ field. IsField family.now.n RUN_DEGREE field.c field.b) fields.now }
-    requires members { All (IsInSectorModule family.now.baikov sector.0) fields.now }
+    requires fits { All (All (FitsSeeds family.now.n)) templates.now }
     requires powers { ArePowers family.now.n seed.now }
-    requires of_sector { sector_of seed.now ≡ sector.0 }
-    ensures { IfOk result (λ rows. AllZip (λ label row. IsCandidate (family_view family.now) label.seed (field_numbered fields.now label.field) row) (labels_at (length fields.now) seed.now) rows.items) }
+    ensures { IfOk result (λ rows. AreCandidatesAt (family_view family.now) templates.now seed.now rows.items) }
 {
     let mut rows = Vec::new(alloc);
-    for field in fields {
-        rows.push(candidate(alloc, family, field, seed)?)?;
+    for template in templates {
+        rows.push(template.candidate(alloc, family, seed)?)?;
     }
     Ok(rows)
 }

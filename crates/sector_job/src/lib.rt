@@ -3,16 +3,15 @@
 
 mod bounds;
 mod candidates;
+mod found;
 pub mod laws;
 mod outcome;
 mod plan;
 mod sector_result;
-mod seeding;
 mod tails;
 mod working;
 
 pub use outcome::Outcome;
 pub use plan::Plan;
 pub use sector_result::SectorResult;
-pub use seeding::seeds_for;
 pub use working::{work, work_wide};

@@ -2,8 +2,9 @@
 ghost use Rattle.std.specs.Prelude.{◌≡◌};
 ghost use Rattle.family.specs.FamilyView.{family_view};
 ghost use Rattle.sector_job.specs.Outcomes.{FitsTargets, IsOutcome};
-ghost use Rattle.sector_job.specs.Results.{result_value};
+ghost use Rattle.sector_job.specs.Results.{result_value, HasSeeds, HasBasisOf};
 
+use crate::found::Found;
 use crate::outcome::Outcome;
 use crate::plan::Plan;
 use ibp_base::List;
@@ -12,19 +13,21 @@ use sector_lattice::{Integral, Sector};
 use std::marker::Model;
 
 /// What came of a sector for some of its integrals. It keeps that the outcome is the one that the family
-/// gives to the sector and these targets.
+/// gives to the sector and these targets, and which seeds and which basis its candidates have.
 #[derive(Drop)]
 pub struct SectorResult {
     plan: Plan,
     sector: Sector,
     targets: List<Integral>,
     outcome: Outcome,
+    seeds: List<Integral>,
+    basis: List<u32>,
 }
 
 impl Model for SectorResult {
     ghost use Rattle.std.specs.Coded.{codes};
     ghost use Rattle.family.specs.contracts.family.Family.{the_row as family_row};
-    ghost use Rattle.sector_job.specs.Results.{ResultValue, result_value, IsResult};
+    ghost use Rattle.sector_job.specs.Results.{ResultValue, result_value, IsKept};
 
     ghost Value = { ResultValue };
 
@@ -32,7 +35,7 @@ impl Model for SectorResult {
 
     ghost view = { λ s. result_value s.plan s.sector s.targets s.outcome };
 
-    ghost invariant = { λ s. IsResult (result_value s.plan s.sector s.targets s.outcome) };
+    ghost invariant = { λ s. IsKept (result_value s.plan s.sector s.targets s.outcome) s.seeds s.basis };
 }
 
 impl SectorResult {
@@ -41,17 +44,26 @@ impl SectorResult {
         plan: Plan,
         sector: Sector,
         targets: List<Integral>,
-        outcome: Outcome,
+        found: Found,
     ) -> SectorResult
         requires fits { FitsTargets (family_view plan) sector.0 targets }
-        requires outcome { IsOutcome (family_view plan) sector.0 targets outcome }
-        ensures { result ≡ result_value plan sector targets outcome }
+        requires outcome { IsOutcome (family_view plan) sector.0 targets found.outcome }
+        requires seeds { HasSeeds (family_view plan) sector.0 targets found.outcome found.seeds }
+        requires basis { HasBasisOf found.outcome found.basis }
+        ensures { result ≡ result_value plan sector targets found.outcome }
     {
+        let Found {
+            outcome,
+            seeds,
+            basis,
+        } = found;
         SectorResult {
             plan,
             sector,
             targets,
             outcome,
+            seeds,
+            basis,
         }
     }
 
@@ -62,6 +74,20 @@ impl SectorResult {
         ensures fits { FitsTargets (family_view self.now.plan) self.now.sector.0 self.now.targets }
     {
         &self.outcome
+    }
+
+    /// The seeds that the candidates are made at, lowest first.
+    pub fn seeds(&self) -> &[Integral]
+        ensures { HasSeeds (family_view self.now.plan) self.now.sector.0 self.now.targets self.now.outcome result.now }
+    {
+        self.seeds.as_slice()
+    }
+
+    /// The places of the candidates that are not in the span of earlier ones, lowest first.
+    pub fn basis(&self) -> &[u32]
+        ensures { HasBasisOf self.now.outcome result.now }
+    {
+        self.basis.as_slice()
     }
 }
 

@@ -3,33 +3,44 @@ ghost use Rattle.std.specs.Prelude.{◌≡◌, ◌↔◌, ◌<◌, ◌^◌, ◌+
 ghost use Rattle.std.specs.List.{flat_map};
 ghost use Rattle.std.specs.List.Sorted.{IsPermutation, IsSorted};
 ghost use Rattle.sector_lattice.specs.Sectors.{integral_cmp};
+ghost use Rattle.relation_pick.specs.Bases.{ListsBasis};
 ghost use Rattle.sector_job.specs.Candidates.{target_row, AreTails};
 ghost use Rattle.sector_job.specs.Handing.{is_proper, integrals_below};
 
-use ibp_base::NoMemory;
+use ibp_base::{List, NoMemory};
 use ibp_field::Residue;
-use relation_pick::reduced_forms;
+use relation_pick::{Forms, reduced_forms};
 use sector_lattice::{Integral, Sector, is_subsector};
 use sparse_rows::Row;
 use std::alloc::Global;
 
-/// The integrals of proper subsectors that occur in the reduced forms of the targets by the candidates, lowest
-/// first.
+/// What a sector hands down, with the basis of its candidates.
+#[derive(Drop)]
+pub struct Handed {
+    /// The integrals of proper subsectors that occur in the reduced forms of the targets, lowest first.
+    pub tails: Vec<Integral>,
+    /// The places of the candidates that are not in the span of earlier ones, lowest first.
+    pub basis: List<u32>,
+}
+
+/// The integrals of proper subsectors that occur in the reduced forms of the targets by the candidates, and the
+/// candidates that are not in the span of earlier ones.
 pub fn tails_of(
     alloc: Global,
     sector: Sector,
     targets: &[Integral],
     candidates: &[Row],
-) -> Result<Vec<Integral>, NoMemory>
+) -> Result<Handed, NoMemory>
     requires { length candidates.now < 2 ^ 32 }
-    ensures { IfOk result (λ tails. AreTails sector.0 targets.now candidates.now tails.items) }
+    ensures tails { IfOk result (λ handed. AreTails sector.0 targets.now candidates.now handed.tails.items) }
+    ensures basis { IfOk result (λ handed. ListsBasis integral_cmp candidates.now handed.basis) }
 {
     let rows = target_rows(alloc, targets)?;
-    let forms = reduced_forms(alloc, candidates, &rows)?;
+    let Forms { forms, basis } = reduced_forms(alloc, candidates, &rows)?;
     let mut tails = all_below(alloc, sector, forms.as_slice())?;
     sort(&mut tails);
     tails.dedup();
-    Ok(tails)
+    Ok(Handed { tails, basis })
 }
 
 // The row of each target.

@@ -7,13 +7,15 @@ ghost use Rattle.family.specs.FamilyView.{family_view};
 ghost use Rattle.family.specs.Shapes.{IsField};
 ghost use Rattle.relation_pick.specs.declared.parts.TheConstants.{PARTS};
 ghost use Rattle.sector_job.specs.Outcomes.{FitsTargets, HasBasis, IsOutcome};
+ghost use Rattle.sector_job.specs.Results.{HasSeeds, HasBasisOf};
 
 use crate::bounds::{are_too_many, most_dots, most_rank};
 use crate::candidates::Listing;
+use crate::found::Found;
 use crate::outcome::Outcome;
 use crate::plan::Plan;
 use crate::sector_result::SectorResult;
-use crate::tails::tails_of;
+use crate::tails::{Handed, tails_of};
 use family::Family;
 use ibp_base::{List, NoMemory};
 use module_basis::BasisFault;
@@ -74,7 +76,7 @@ fn work_by<L: Listing>(
     ensures targets { IfOk result (λ piece. piece.targets ≡ job.now.targets) }
     ensures outcome { IfOk result (λ piece. IsOutcome (family_view plan.now) job.now.sector.0 job.now.targets piece.outcome) }
 {
-    let outcome = outcome_of(
+    let found = outcome_of(
         alloc,
         listing,
         plan.family(),
@@ -82,7 +84,7 @@ fn work_by<L: Listing>(
         job.targets.as_slice(),
     )?;
     let targets = List::from_vec(job.targets.as_slice().to_vec(alloc)?);
-    Ok(SectorResult::new(plan.share()?, job.sector, targets, outcome))
+    Ok(SectorResult::new(plan.share()?, job.sector, targets, found))
 }
 
 // What comes of the sector for these targets.
@@ -92,15 +94,17 @@ fn outcome_of<L: Listing>(
     family: &Family,
     sector: Sector,
     targets: &[Integral],
-) -> Result<Outcome, NoMemory>
+) -> Result<Found, NoMemory>
     requires can { L.can_list }
     requires fits { FitsTargets (family_view family.now) sector.0 targets.now }
-    ensures { IfOk result (λ outcome. IsOutcome (family_view family.now) sector.0 targets.now outcome) }
+    ensures outcome { IfOk result (λ found. IsOutcome (family_view family.now) sector.0 targets.now found.outcome) }
+    ensures seeds { IfOk result (λ found. HasSeeds (family_view family.now) sector.0 targets.now found.outcome found.seeds) }
+    ensures basis { IfOk result (λ found. HasBasisOf found.outcome found.basis) }
 {
     match sector_basis(alloc, family, sector) {
         Ok(generators) => outcome_by(alloc, listing, family, targets, generators),
-        Err(BasisFault::PairsSpent) => Ok(Outcome::PairsSpent),
-        Err(BasisFault::DegreeOver) => Ok(Outcome::DegreeOver),
+        Err(BasisFault::PairsSpent) => Ok(Found::without_candidates(alloc, Outcome::PairsSpent)),
+        Err(BasisFault::DegreeOver) => Ok(Found::without_candidates(alloc, Outcome::DegreeOver)),
         Err(BasisFault::NoMemory) => Err(NoMemory),
     }
 }
@@ -112,27 +116,34 @@ fn outcome_by<L: Listing>(
     family: &Family,
     targets: &[Integral],
     generators: Generators,
-) -> Result<Outcome, NoMemory>
+) -> Result<Found, NoMemory>
     requires can { L.can_list }
     requires fits { FitsTargets (family_view family.now) generators.sector.0 targets.now }
     requires basis { HasBasis (family_view family.now) generators.sector.0 generators.fields }
     requires shape { All (λ field. IsField family.now.n RUN_DEGREE field.c field.b) generators.fields }
     requires members { All (IsInSectorModule family.now.baikov generators.sector.0) generators.fields }
-    ensures { IfOk result (λ outcome. IsOutcome (family_view family.now) generators.sector.0 targets.now outcome) }
+    ensures outcome { IfOk result (λ found. IsOutcome (family_view family.now) generators.sector.0 targets.now found.outcome) }
+    ensures seeds { IfOk result (λ found. HasSeeds (family_view family.now) generators.sector.0 targets.now found.outcome found.seeds) }
+    ensures basis { IfOk result (λ found. HasBasisOf found.outcome found.basis) }
 {
     let sector = generators.sector();
     let fields = generators.fields();
     let dots = most_dots(family, sector, targets);
     let rank = most_rank(family, sector, targets);
     if are_too_many(family, fields.len(), sector, dots, rank) {
-        return Ok(Outcome::CandidatesOver);
+        return Ok(Found::without_candidates(alloc, Outcome::CandidatesOver));
     }
     let seeds = seeds(alloc, sector, family.n, dots, rank)?;
     let candidates = listing.list(alloc, family, sector, fields, seeds.as_slice())?;
-    let tails = tails_of(alloc, sector, targets, &candidates)?;
-    Ok(Outcome::Worked {
+    let Handed { tails, basis } = tails_of(alloc, sector, targets, &candidates)?;
+    let outcome = Outcome::Worked {
         generators,
         candidates: List::from_vec(candidates),
         tails: List::from_vec(tails),
+    };
+    Ok(Found {
+        outcome,
+        seeds,
+        basis,
     })
 }

@@ -1,9 +1,9 @@
 -- The summary of a system that a drill writes, as a list of bytes: how many there are of each.
---     drill 0
---     sectors 9
---     fields 70
---     relations 40
---     terms 160
+--     drill 7
+--     sectors 7
+--     fields 106
+--     relations 35
+--     terms 133
 --     targets 12
 --     end
 -- Source: a format of our own.

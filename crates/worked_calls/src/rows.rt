@@ -196,11 +196,21 @@ fn columns_give_the_same(rt: HostRuntime) {
     assert!(rt; last == row(&rt, alloc, &[(1, -10)]));
 }
 
+// The same two, with a multiple of the first one between them.
+fn with_a_multiple(rt: &impl Abort, alloc: Global) -> [Row; 3] {
+    [
+        row(rt, alloc, &[(2, 2147483646), (1, 5)]),
+        row(rt, alloc, &[(2, 2147483644), (1, 15)]),
+        row(rt, alloc, &[(3, 2147483645), (2, 4)]),
+    ]
+}
+
 #[test]
 fn forms_alone_are_those_of_the_pick(rt: HostRuntime) {
     let alloc = rt.alloc();
     let targets = [row(&rt, alloc, &[(3, 1)])];
-    let forms = reduced_forms(alloc, &two_rows(&rt, alloc), &targets);
-    let forms = forms.ok().expect(&rt, "memory");
-    assert!(rt; forms.as_slice() == [row(&rt, alloc, &[(1, 10)])].as_slice());
+    let found = reduced_forms(alloc, &with_a_multiple(&rt, alloc), &targets);
+    let found = found.ok().expect(&rt, "memory");
+    assert!(rt; found.forms.as_slice() == [row(&rt, alloc, &[(1, 10)])].as_slice());
+    assert_eq!(rt; found.basis.as_slice(), [0, 2].as_slice());
 }

@@ -3,11 +3,11 @@ use crate::relays::{job_of, opened};
 use ibp_field::Residue;
 use relay_core::{Event, FinishFault, NotHeld, Piece, PostFault, RelayState, Taken};
 use sector_job::{Outcome, Plan, SectorResult};
-use sector_lattice::Sector;
+use sector_lattice::{Integral, Sector};
 use sparse_rows::Row;
 use std::alloc::Global;
 use std::process::Abort;
-use worked_texts::{PLANE, QUAD, QUAD_SYSTEM, closes, integral, plan_of, worked};
+use worked_texts::{PLANE, QUAD, QUAD_SYSTEM, closes, plan_of, worked};
 
 // The result of the next job, which is of this sector.
 fn next_result(
@@ -111,7 +111,9 @@ fn finish_the_first(
     relay: &mut RelayState<SectorResult>,
 ) {
     let first = next_result(rt, alloc, plan, relay, 2, 3);
-    assert!(rt; first.targets() == [integral(&[1, 1]).expect(rt, "powers in range")].as_slice());
+    assert!(rt;
+        first.targets() == [Integral::new(&[1, 1]).expect(rt, "powers in range")].as_slice()
+    );
     let first = handed_back(rt, relay, 1, first);
     assert!(rt; relay.post(2, &first, 0, 1) == Err(PostFault::NotTail { tails: 0 }));
     assert!(rt; relay.finish(2, first).is_ok());
@@ -153,7 +155,7 @@ fn has_terms(rt: &impl Abort, row: &Row, terms: &[(i16, i64)]) -> bool {
         && row.terms().iter().zip(terms).all(|(term, (power, value))| {
             *term
                 == (
-                    integral(&[*power]).expect(rt, "powers in range"),
+                    Integral::new(&[*power]).expect(rt, "powers in range"),
                     Residue::from_i64(*value),
                 )
         })
@@ -171,7 +173,8 @@ fn is_work_of_the_quad(rt: &impl Abort, piece: &SectorResult) -> bool {
                 && candidates.as_slice().len() == 2
                 && has_terms(rt, &candidates.as_slice()[0], &[(-1, 12)])
                 && has_terms(rt, &candidates.as_slice()[1], &[(2, 2147483646), (0, 11)])
-                && tails.as_slice() == [integral(&[0]).expect(rt, "powers in range")].as_slice()
+                && tails.as_slice()
+                    == [Integral::new(&[0]).expect(rt, "powers in range")].as_slice()
         }
         _ => false,
     }
@@ -187,7 +190,7 @@ fn stranger_of(rt: &impl Abort, alloc: Global) -> SectorResult {
 }
 
 fn is_zero_posted(rt: &impl Abort, relay: &RelayState<SectorResult>) -> bool {
-    relay.targets_of(Sector(0)) == [integral(&[0]).expect(rt, "powers in range")].as_slice()
+    relay.targets_of(Sector(0)) == [Integral::new(&[0]).expect(rt, "powers in range")].as_slice()
 }
 
 // The first worker posts the tail of sector 1, and the second one must wait.

@@ -15,7 +15,7 @@ use sparse_rows::Row;
 use std::alloc::Global;
 use std::process::Abort;
 use std::test::Fail;
-use worked_texts::{BUBBLE, integral};
+use worked_texts::BUBBLE;
 
 const PROBE: &str = "
 [probe]
@@ -64,8 +64,8 @@ fn candidates_at_the_probe(alloc: Global, family: &Family) -> Result<Vec<Row>, F
 fn the_candidates_of_a_bubble_at_a_seed(rt: HostRuntime) -> Result<(), Fail> {
     let bubble = bubble_with_a_seed(&rt, rt.alloc());
     let rows = candidates_at_the_probe(rt.alloc(), &bubble)?;
-    let dotted = integral(&[1, 2]).expect(&rt, "powers in range");
-    let plain = integral(&[1, 1]).expect(&rt, "powers in range");
+    let dotted = Integral::new(&[1, 2]).expect(&rt, "powers in range");
+    let plain = Integral::new(&[1, 1]).expect(&rt, "powers in range");
     assert_eq!(rt; rows.len(), 2);
     for (row, [first, second]) in rows.iter().zip([[1, 14], [2147483645, 2147483619]]) {
         assert_eq!(rt; row.terms().len(), 2);

@@ -4,18 +4,12 @@ use family_file::{Need, read_family};
 use neat_system::close;
 use relay_core::{Job, RelayState};
 use sector_job::{Plan, SectorResult, work};
-use sector_lattice::Integral;
 use std::alloc::Global;
 use system_text::{System, print_system};
 
 /// The family of a file.
 pub fn family_of(alloc: Global, file: &str) -> Option<Family> {
     read_family(alloc, file.as_bytes(), Need::Family).ok()
-}
-
-/// The integral of these powers.
-pub fn integral(powers: &[i16]) -> Option<Integral> {
-    Integral::new(powers)
 }
 
 /// The plan of a file's family.

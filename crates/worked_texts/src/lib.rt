@@ -3,7 +3,7 @@
 
 mod fixtures;
 
-pub use fixtures::{closes, family_of, integral, is_printed, plan_of, worked};
+pub use fixtures::{closes, family_of, is_printed, plan_of, worked};
 
 /// The massive tadpole with a probe.
 pub const TADPOLE: &str = r#"version = 1

@@ -1,5 +1,6 @@
 use Rattle.std.proofs.Common.{◌≡◌, ◌++◌, take}
+use Rattle.relation_pick.specs.Picking.{rows_at}
 use Rattle.neat_system.proofs.gathering.add_rows.Given as goal
 
-abbrev pub invariant-loop-row : goal.invariant-loop-row
-invariant-loop-row l = l.rows.items ≡ l.fn.rows.items ++ take l.row-index l.more
+abbrev pub invariant-loop-place : goal.invariant-loop-place
+invariant-loop-place l = l.rows.items ≡ l.fn.rows.items ++ rows_at l.candidates (take l.place-index l.places)

@@ -1,7 +1,6 @@
 use Rattle.std.proofs.Common.{take}
-use Rattle.family.specs.FamilyView.{family_view}
 use Rattle.neat_system.specs.Gathering.{Gathers}
 use Rattle.neat_system.proofs.gathering.gather.Given as goal
 
 abbrev pub invariant-loop-piece : goal.invariant-loop-piece
-invariant-loop-piece l = Gathers (family_view l.family) (take l.piece-index l.pieces) l.gathered
+invariant-loop-piece l = Gathers (take l.piece-index l.pieces) l.gathered

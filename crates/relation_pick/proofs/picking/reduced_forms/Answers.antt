@@ -1,8 +1,9 @@
-use Rattle.std.proofs.Common.{List, sym, subst}
+use Rattle.std.proofs.Common.{ℕ, List, sym, subst}
 use Rattle.sector_lattice.specs.Sectors.{integral_cmp}
 use Rattle.sparse_rows.specs.Rows.{IntegralSum}
 use Rattle.relation_pick.specs.Picking.{AllForms}
-use Rattle.relation_pick.proofs.Forms.{AllForms-step, AllForms-whole}
+use Rattle.relation_pick.specs.Bases.{ListsBasis}
+use Rattle.relation_pick.proofs.FormsInTurn.{AllForms-step, AllForms-whole}
 use Rattle.relation_pick.proofs.Keeping.{IsForm-from_reduce}
 use Rattle.relation_pick.proofs.picking.reduced_forms.Goals as goal
 
@@ -10,10 +11,14 @@ pub loop-target-preserved : goal.loop-target-preserved
 loop-target-preserved c =
     AllForms-step integral_cmp c.args.candidates.now c.args.targets.now c.loop-target.target-index c.loop-target.forms.items c.push.new.self.items c.target-item.result c.in_ok-form.form
     c.loop-target-test.true c.target-item.is
-    (IsForm-from_reduce c.args.candidates.now c.in_ok-echelon.echelon c.in_ok-echelon.ensures c.target-item.result c.in_ok-form.form c.in_ok-form.ensures.form c.in_ok-form.ensures.canonical)
+    (IsForm-from_reduce c.args.candidates.now c.in_ok-basis.basis.echelon c.in_ok-basis.ensures.rows c.target-item.result c.in_ok-form.form c.in_ok-form.ensures.form c.in_ok-form.ensures.canonical)
     c.in_ok-push.ensures.items c.loop-target.invariant
 
-pub returns : goal.returns
-returns c =
+pub returns-clause-forms : goal.returns-clause-forms
+returns-clause-forms c =
     subst (λ (forms : List IntegralSum). AllForms integral_cmp c.args.candidates.now c.args.targets.now forms) (sym c.from_vec.ensures)
     (AllForms-whole integral_cmp c.args.candidates.now c.args.targets.now c.loop-target.target-index c.loop-target.forms.items c.loop-target-test.false c.loop-target.invariant)
+
+pub returns-clause-basis : goal.returns-clause-basis
+returns-clause-basis c =
+    subst (λ (places : List ℕ). ListsBasis integral_cmp c.args.candidates.now places) (sym c.from_vec-2.ensures) c.in_ok-basis.ensures.places

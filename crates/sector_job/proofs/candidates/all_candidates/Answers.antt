@@ -1,11 +1,13 @@
+use Rattle.std.proofs.Common.{List, sym, subst}
+use Rattle.std.specs.List.{All}
 use Rattle.family.specs.FamilyView.{family_view}
-use Rattle.sector_job.proofs.Listing.{lists_more, lists_whole}
+use Rattle.ibp_relation.specs.Templates.{FitsSeeds}
+use Rattle.ibp_relation.specs.declared.affine.AffineTerm.{AffineTerm}
+use Rattle.sector_job.proofs.FieldTemplates.{templates_fit}
 use Rattle.sector_job.proofs.candidates.all_candidates.Goals as goal
 
-pub loop-seed-preserved : goal.loop-seed-preserved
-loop-seed-preserved c =
-    lists_more (family_view c.args.family.now) c.args.fields.now c.args.seeds.now c.loop-seed.seed-index c.seed-item.result c.loop-seed.rows.items c.in_ok-more.more.items _ c.loop-seed-test.true
-    c.seed-item.is c.in_ok-more.ensures c.in_ok-append.ensures.items c.loop-seed.invariant
-
-pub returns : goal.returns
-returns c = lists_whole (family_view c.args.family.now) c.args.fields.now c.args.seeds.now c.loop-seed.seed-index c.loop-seed.rows.items c.loop-seed-test.false c.loop-seed.invariant
+pub candidates_of-requires-clause-fits : goal.candidates_of-requires-clause-fits
+candidates_of-requires-clause-fits c =
+    let family = c.args.family.now in
+    subst (λ (templates : List (List AffineTerm)). All (All (FitsSeeds family.n)) templates) (sym c.deref.ensures.value)
+    (templates_fit (family_view family) c.args.sector.0 c.args.fields.now c.in_ok-templates.templates.items c.in_ok-templates.ensures)

@@ -5,6 +5,8 @@ use Rattle.family.specs.FamilyView.{family_view}
 use Rattle.family.specs.Shapes.{ArePowers}
 use Rattle.family.specs.declared.parts.StrippedField.{StrippedField}
 use Rattle.sector_job.specs.Candidates.{Integral, dots_bound, rank_bound}
+use Rattle.sector_job.specs.Outcomes.{IsOutcome}
+use Rattle.sector_job.specs.declared.outcome.Outcome.{Outcome}
 use Rattle.sector_job.proofs.Steps.{fits_below, is_over, all_powers, few_rows, within_budget}
 use Rattle.sector_job.proofs.working.outcome_by.Goals as goal
 
@@ -30,8 +32,8 @@ seeds-requires g c = record {
   low_rank = c.most_rank-rank.ensures.bound;
 }
 
-pub returns-then-are_too_many : goal.returns-then-are_too_many
-returns-then-are_too_many g c =
+pub returns-then-are_too_many-clause-outcome : goal.returns-then-are_too_many-clause-outcome
+returns-then-are_too_many-clause-outcome g c =
     let family = family_view c.args.family.now in
     let generators = c.args.generators in
     let dots = c.most_dots-dots.result in
@@ -41,9 +43,10 @@ returns-then-are_too_many g c =
     subst (λ s. family.budget.candidates < length generators.fields * seed_number s family.n dots rank) (ap (λ s. s.0) c.sector-sector.ensures)
     (subst (λ (fields : List StrippedField). family.budget.candidates < length fields * seed_number c.sector-sector.result.0 family.n dots rank) c.fields-fields.ensures over)
     in
-    is_over family generators.sector.0 c.args.targets.now generators.fields dots rank (fits_below family generators.sector.0 c.args.targets.now c.requires.fits) c.requires.basis
+    subst (λ (o : Outcome). IsOutcome family generators.sector.0 c.args.targets.now o) (sym c.without_candidates.ensures.outcome)
+    (is_over family generators.sector.0 c.args.targets.now generators.fields dots rank (fits_below family generators.sector.0 c.args.targets.now c.requires.fits) c.requires.basis
     (c.most_dots-dots.ensures.value ∙ ap (λ s. dots_bound family s.0 c.args.targets.now) c.sector-sector.ensures)
-    (c.most_rank-rank.ensures.value ∙ ap (λ s. rank_bound family s.0 c.args.targets.now) c.sector-sector.ensures) here
+    (c.most_rank-rank.ensures.value ∙ ap (λ s. rank_bound family s.0 c.args.targets.now) c.sector-sector.ensures) here)
 
 pub list-requires-clause-powers : goal.list-requires-clause-powers
 list-requires-clause-powers g c =
