@@ -5,10 +5,12 @@ use Rattle.std.proofs.lemmas.List.{length-map, take_more, map_push, flat_map_mor
 use Rattle.std.proofs.lemmas.List.Elements.{All-contains}
 use Rattle.ibp_algebra.specs.Spans.{row_at}
 use Rattle.sector_lattice.specs.Sectors.{integral_cmp}
+use Rattle.row_echelon.specs.References.{rows_of}
 use Rattle.relation_pick.specs.Bases.{Covers, ListsBasis}
 use Rattle.relation_pick.specs.Picking.{rows_at}
 use Rattle.relation_pick.proofs.Covers.{covers_joined}
 use Rattle.relation_pick.proofs.Places.{few_below}
+use Rattle.relation_pick.proofs.Referred.{as_many_rows}
 use Rattle.sector_job.specs.Candidates.{Integral, Label, labels, AreSeedsFor}
 use Rattle.sector_job.specs.Results.{ResultValue, HasSeeds, HasBasisOf}
 use Rattle.sector_job.specs.Outcomes.{IsOutcome}
@@ -74,7 +76,7 @@ gathers_none gathered blocks labels candidates = record {
   covers = covers_none;
   blocks = blocks;
   labels = ap label_views labels;
-  candidates = candidates;
+  candidates = ap rows_of candidates;
 }
 
 pub gathers_more : (pieces : List ResultValue) (i : ℕ) (piece : ResultValue) (old new : Gathered) → i < length pieces → piece ≡ get_or pieces i piece
@@ -99,13 +101,13 @@ gathers_more pieces i piece old new inside is so_far gains =
 pub as_many_labels : (pieces : List ResultValue) (gathered : Gathered) → Gathers pieces gathered → length gathered.labels.items ≡ length gathered.candidates.items
 as_many_labels pieces gathered gathers =
     sym (length-map gathered.labels.items label_view) ∙ ap length gathers.labels ∙ length-map gathers.places (label_at (all_labels gathers.works))
-    ∙ sym (length-map gathers.places (row_at (all_candidates gathers.works))) ∙ ap length (sym gathers.candidates)
+    ∙ sym (length-map gathers.places (row_at (all_candidates gathers.works))) ∙ ap length (sym gathers.candidates) ∙ as_many_rows gathered.candidates.items
 
 -- no more candidates are gathered than there are
 pub few_gathered : (pieces : List ResultValue) (gathered : Gathered) (gathers : Gathers pieces gathered) → length gathered.candidates.items ≤ length (all_candidates gathers.works)
 few_gathered pieces gathered gathers =
     let all = all_candidates gathers.works in
-    let listed : length gathered.candidates.items ≡ length gathers.places = ap length gathers.candidates ∙ length-map gathers.places (row_at all) in
+    let listed : length gathered.candidates.items ≡ length gathers.places = sym (as_many_rows gathered.candidates.items) ∙ ap length gathers.candidates ∙ length-map gathers.places (row_at all) in
     let few : length gathers.places ≤ length all = few_below gathers.places (length all) gathers.covers.ascends (λ x inside. All-contains (λ k. k < length all) gathers.places x gathers.covers.within inside) in
     omega (arith, listed, few)
 

@@ -18,6 +18,7 @@ use Rattle.sector_lattice.specs.Sectors.{integral_cmp}
 use Rattle.sparse_rows.specs.Rows.{IntegralSum}
 use Rattle.family.specs.FamilyData.{FamilyData}
 use Rattle.family.specs.FamilyView.{family_view}
+use Rattle.row_echelon.specs.References.{rows_of}
 use Rattle.relation_pick.specs.Bases.{Covers}
 use Rattle.relation_pick.specs.Picking.{IsPick, rows_at}
 use Rattle.sector_job.specs.Candidates.{Label as LabelData, labels}
@@ -63,7 +64,7 @@ pub record Gains (piece : ResultValue) (old new : Gathered) : Type 0 where
   pub covers : Covers integral_cmp work.candidates places
   pub blocks : new.blocks.items ≡ old.blocks.items ++ block_of work ∷ []
   pub labels : label_views new.labels.items ≡ label_views old.labels.items ++ map (label_at (labels (length work.fields) work.seeds)) places
-  pub candidates : new.candidates.items ≡ old.candidates.items ++ rows_at work.candidates places
+  pub candidates : rows_of new.candidates.items ≡ rows_of old.candidates.items ++ rows_at work.candidates places
 
 pub record Gathers (pieces : List ResultValue) (gathered : Gathered) : Type 0 where
   pub works : List SectorWork
@@ -72,7 +73,7 @@ pub record Gathers (pieces : List ResultValue) (gathered : Gathered) : Type 0 wh
   pub covers : Covers integral_cmp (all_candidates works) places
   pub blocks : gathered.blocks.items ≡ map block_of works
   pub labels : label_views gathered.labels.items ≡ map (label_at (all_labels works)) places
-  pub candidates : gathered.candidates.items ≡ rows_at (all_candidates works) places
+  pub candidates : rows_of gathered.candidates.items ≡ rows_at (all_candidates works) places
 
 pub record IsFirstFault (pieces : List ResultValue) (fault : SystemFault) : Type 0 where
   pub place : ℕ
@@ -87,9 +88,9 @@ pub record Writes (family : FamilyData) (gathered : Gathered) (system : System) 
   pub written : List ℕ
   pub forms : List IntegralSum
   pub weights : List (FormalSum ℕ)
-  pub pick : IsPick integral_cmp gathered.candidates.items (map (declared_row family) family.targets) written forms weights
+  pub pick : IsPick integral_cmp (rows_of gathered.candidates.items) (map (declared_row family) family.targets) written forms weights
   pub name : system.name ≡ family.name
   pub n : system.n ≡ family.n
   pub sectors : system.sectors ≡ gathered.blocks.items
-  pub relations : system.relations ≡ map (relation_at (label_views gathered.labels.items) gathered.candidates.items) written
+  pub relations : system.relations ≡ map (relation_at (label_views gathered.labels.items) (rows_of gathered.candidates.items)) written
   pub reductions : system.reductions ≡ reductions_of written family.targets forms weights

@@ -4,6 +4,7 @@ ghost use Rattle.std.specs.Prelude.{◌≡◌, ◌<◌, ◌≤◌, ◌^◌, IfOk
 ghost use Rattle.sector_lattice.specs.Sectors.{integral_cmp};
 ghost use Rattle.family.specs.FamilyView.{family_view};
 ghost use Rattle.relay_core.specs.Relay.{AllDone};
+ghost use Rattle.row_echelon.specs.References.{rows_of};
 ghost use Rattle.relation_pick.specs.Picking.{IsPick};
 ghost use Rattle.relation_pick.specs.declared.parts.TheConstants.{PARTS};
 ghost use Rattle.neat_system.specs.Answer.{IsAnswer, IsAnswerFor};
@@ -15,7 +16,7 @@ use crate::gathering::{Gathered, gather};
 use crate::relations::relations_at;
 use family::Family;
 use ibp_base::{List, NoMemory};
-use relation_pick::{AtOnce, InTurn, PARTS, Picked, pick, pick_wide};
+use relation_pick::{AtOnce, InTurn, PARTS, Picked, pick_among, pick_wide_among};
 use relay_core::RelayState;
 use sector_job::SectorResult;
 use sparse_rows::Row;
@@ -30,25 +31,35 @@ pub trait Picking {
     ghost can_pick: { Type 0 };
 
     /// The candidates that are needed, and the answer for each target.
-    fn pick(&self, alloc: Global, candidates: &[Row], targets: &[Row]) -> Result<Picked, NoMemory>
+    fn pick(&self, alloc: Global, candidates: &[&Row], targets: &[Row]) -> Result<Picked, NoMemory>
         requires can { can_pick }
         requires few { length candidates.now < 2 ^ 32 }
-        ensures pick { IfOk result (λ picked. IsPick integral_cmp candidates.now targets.now picked.written picked.reductions picked.weights) };
+        ensures pick { IfOk result (λ picked. IsPick integral_cmp (rows_of candidates.now) targets.now picked.written picked.reductions picked.weights) };
 }
 
 impl Picking for InTurn {
     ghost can_pick = { Unit {0} };
 
-    fn pick(&self, alloc: Global, candidates: &[Row], targets: &[Row]) -> Result<Picked, NoMemory> {
-        pick(alloc, candidates, targets)
+    fn pick(
+        &self,
+        alloc: Global,
+        candidates: &[&Row],
+        targets: &[Row],
+    ) -> Result<Picked, NoMemory> {
+        pick_among(alloc, candidates, targets)
     }
 }
 
 impl<'a, R: Threads + Sync> Picking for AtOnce<'a, R> {
     ghost can_pick = { IsSync R.row };
 
-    fn pick(&self, alloc: Global, candidates: &[Row], targets: &[Row]) -> Result<Picked, NoMemory> {
-        pick_wide(
+    fn pick(
+        &self,
+        alloc: Global,
+        candidates: &[&Row],
+        targets: &[Row],
+    ) -> Result<Picked, NoMemory> {
+        pick_wide_among(
             self.rt,
             alloc,
             candidates,
@@ -68,7 +79,7 @@ fn system_of<P: Picking>(
     requires can { P.can_pick }
     requires few { length gathered.candidates.items < 2 ^ 31 }
     requires labels { length gathered.labels.items ≡ length gathered.candidates.items }
-    ensures { IfOk result (Writes (family_view family.now) gathered) }
+    ensures { IfOk result (Writes (family_view family.now) gathered.entry) }
 {
     let Gathered {
         blocks,

@@ -1,5 +1,6 @@
 // The works of all pieces of a relay, gathered into the lists that a system is made from.
 ghost use Rattle.std.specs.Prelude.{◌≡◌, ◌<◌, ◌++◌, length, IfOk, OnOk, All};
+ghost use Rattle.row_echelon.specs.References.{rows_of};
 ghost use Rattle.relation_pick.specs.Picking.{rows_at};
 ghost use Rattle.neat_system.specs.Gathering.{IsWorkedPiece, Gains, Gathers};
 
@@ -14,33 +15,36 @@ use system_text::SectorBlock;
 /// The sectors with their bases, and the candidates that all others are in the span of, with what they are made from,
 /// in candidate order.
 #[derive(Drop)]
-pub struct Gathered {
+pub struct Gathered<'a> {
     /// The sectors with their bases, in sector order.
     pub blocks: Vec<SectorBlock>,
     /// What each of these candidates is made from.
     pub labels: Vec<Label>,
-    /// Those candidates of each sector that are not in the span of earlier ones of their sector.
-    pub candidates: Vec<Row>,
+    /// Those candidates of each sector that are not in the span of earlier ones of their sector. The pieces keep them.
+    pub candidates: Vec<&'a Row>,
 }
 
-// Adds copies of the candidates at these places.
-fn add_rows(
-    alloc: Global,
-    rows: &mut Vec<Row>,
-    candidates: &[Row],
+// Adds the candidates at these places, each by a reference.
+fn add_rows<'a>(
+    rows: &mut Vec<&'a Row>,
+    candidates: &'a [Row],
     places: &[u32],
 ) -> Result<(), NoMemory>
     requires { All (λ place. place < length candidates.now) places.now }
-    ensures { OnOk result (rows.new.items ≡ rows.old.items ++ rows_at candidates.now places.now) }
+    ensures { OnOk result (rows_of rows.new.items ≡ rows_of rows.old.items ++ rows_at candidates.now places.now) }
 {
     for place in places {
-        rows.push(candidates[*place as usize].copy(alloc)?)?;
+        rows.push(&candidates[*place as usize])?;
     }
     Ok(())
 }
 
 // Adds what a piece comes to, which is worked.
-fn add_piece(alloc: Global, piece: &SectorResult, gathered: &mut Gathered) -> Result<(), NoMemory>
+fn add_piece<'a>(
+    alloc: Global,
+    piece: &'a SectorResult,
+    gathered: &mut Gathered<'a>,
+) -> Result<(), NoMemory>
     requires { IsWorkedPiece piece.now }
     ensures { OnOk result (Gains piece.now gathered.old gathered.new) }
 {
@@ -60,12 +64,7 @@ fn add_piece(alloc: Global, piece: &SectorResult, gathered: &mut Gathered) -> Re
         seeds,
         basis,
     )?;
-    add_rows(
-        alloc,
-        &mut gathered.candidates,
-        candidates.as_slice(),
-        basis,
-    )?;
+    add_rows(&mut gathered.candidates, candidates.as_slice(), basis)?;
     let fields = generators.copy_fields(alloc)?;
     gathered.blocks.push(SectorBlock {
         sector: piece.sector(),
@@ -75,7 +74,7 @@ fn add_piece(alloc: Global, piece: &SectorResult, gathered: &mut Gathered) -> Re
 }
 
 /// Gathers what the pieces come to, each of which is worked.
-pub fn gather(alloc: Global, pieces: &[SectorResult]) -> Result<Gathered, NoMemory>
+pub fn gather<'a>(alloc: Global, pieces: &'a [SectorResult]) -> Result<Gathered<'a>, NoMemory>
     requires { All IsWorkedPiece pieces.now }
     ensures { IfOk result (Gathers pieces.now) }
 {

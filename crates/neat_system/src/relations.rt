@@ -1,5 +1,6 @@
 // The written candidates as relations.
 ghost use Rattle.std.specs.Prelude.{◌≡◌, ◌<◌, IfOk, length, map, All};
+ghost use Rattle.row_echelon.specs.References.{rows_of};
 ghost use Rattle.neat_system.specs.Gathering.{label_views};
 ghost use Rattle.neat_system.specs.System.{relation_at};
 
@@ -13,12 +14,12 @@ use system_text::Written;
 pub fn relations_at(
     alloc: Global,
     labels: &[Label],
-    candidates: &[Row],
+    candidates: &[&Row],
     places: &[u32],
 ) -> Result<Vec<Written>, NoMemory>
     requires labels { length labels.now ≡ length candidates.now }
     requires places { All (λ place. place < length candidates.now) places.now }
-    ensures { IfOk result (λ relations. relations.items ≡ map (relation_at (label_views labels.now) candidates.now) places.now) }
+    ensures { IfOk result (λ relations. relations.items ≡ map (relation_at (label_views labels.now) (rows_of candidates.now)) places.now) }
 {
     let mut relations = Vec::new(alloc);
     for place in places {

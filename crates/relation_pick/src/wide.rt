@@ -2,6 +2,7 @@
 
 ghost use Rattle.std.specs.Prelude.{◌<◌, ◌≤◌, ◌^◌, length, IfOk};
 ghost use Rattle.sector_lattice.specs.Sectors.{integral_cmp};
+ghost use Rattle.row_echelon.specs.References.{rows_of};
 ghost use Rattle.relation_pick.specs.declared.parts.TheConstants.{PARTS};
 ghost use Rattle.relation_pick.specs.Kept.{AnswersBy};
 ghost use Rattle.relation_pick.specs.Picking.{IsPick, rows_at, IsIrredundant};
@@ -9,7 +10,7 @@ ghost use Rattle.relation_pick.specs.Picking.{IsPick, rows_at, IsIrredundant};
 use crate::parts::{PARTS, piece_size};
 use crate::picking::{Answers, Picked, basis_of, picked_by, reduce_each};
 use ibp_base::NoMemory;
-use row_echelon::Echelon;
+use row_echelon::{Echelon, references};
 use sparse_rows::Row;
 use std::alloc::Global;
 use std::thread;
@@ -60,6 +61,23 @@ pub fn pick_wide<R: Threads + Sync>(
     requires parts { (1 ≤ parts) × (parts ≤ PARTS) }
     ensures pick { IfOk result (λ picked. IsPick integral_cmp candidates.now targets.now picked.written picked.reductions picked.weights) }
     ensures irredundant { IfOk result (λ picked. IsIrredundant integral_cmp candidates.now targets.now (rows_at candidates.now picked.written)) }
+{
+    let rows = references(alloc, candidates)?;
+    pick_wide_among(rt, alloc, &rows, targets, parts)
+}
+
+/// The pick, as `pick_wide` gives it, from candidates that are only referred to.
+pub fn pick_wide_among<R: Threads + Sync>(
+    rt: &R,
+    alloc: Global,
+    candidates: &[&Row],
+    targets: &[Row],
+    parts: u32,
+) -> Result<Picked, NoMemory>
+    requires few { length candidates.now < 2 ^ 32 }
+    requires parts { (1 ≤ parts) × (parts ≤ PARTS) }
+    ensures pick { IfOk result (λ picked. IsPick integral_cmp (rows_of candidates.now) targets.now picked.written picked.reductions picked.weights) }
+    ensures irredundant { IfOk result (λ picked. IsIrredundant integral_cmp (rows_of candidates.now) targets.now (rows_at (rows_of candidates.now) picked.written)) }
 {
     let basis = basis_of(alloc, candidates)?;
     let answers = reduce_at_once(rt, alloc, &basis.echelon, targets, parts)?;

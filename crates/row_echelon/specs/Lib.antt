@@ -7,6 +7,7 @@ pub use Rattle.sparse_rows.specs.Rows
 pub mod Echelons
 pub mod KeptRows
 pub mod RowSpans
+pub mod References
 pub mod Columns
 pub mod Tables
 pub mod Laws

@@ -34,7 +34,7 @@ impl Model for Columns {
 
 impl Columns {
     /// The integrals that occur in the rows. `None` where they are too many to have numbers.
-    pub fn over(alloc: Global, rows: &[Row]) -> Result<Option<Columns>, NoMemory> {
+    pub fn over(alloc: Global, rows: &[&Row]) -> Result<Option<Columns>, NoMemory> {
         let integrals = all_integrals(alloc, rows)?;
         if integrals.terms().len() >= u32::MAX as usize {
             return Ok(None);
@@ -113,7 +113,7 @@ impl Columns {
 }
 
 // The sum of all integrals that occur in the rows.
-fn all_integrals(alloc: Global, rows: &[Row]) -> Result<Row, NoMemory> {
+fn all_integrals(alloc: Global, rows: &[&Row]) -> Result<Row, NoMemory> {
     let mut seen = IndexMap::new(alloc);
     for row in rows {
         add_integrals(&mut seen, row)?;

@@ -9,6 +9,7 @@ ghost use Rattle.row_echelon.specs.Echelons.{row_numbered, IsNumber, InKeptSpan,
 use crate::elimination::append;
 use crate::inserted::Inserted;
 use crate::kept::Kept;
+use crate::referring::references;
 use crate::substitution::substitute;
 use crate::table::Table;
 use crate::ways::{leads_left, whole_left};
@@ -63,6 +64,13 @@ impl Echelon {
     /// No rows, with a column for each integral of the rows that will be inserted. Any other row may come too,
     /// and only takes longer.
     pub fn over(alloc: Global, rows: &[Row]) -> Result<Echelon, NoMemory>
+        ensures { IfOk result (λ echelon. echelon ≡ []) }
+    {
+        Echelon::over_each(alloc, &references(alloc, rows)?)
+    }
+
+    /// The same for rows that are only referred to.
+    pub fn over_each(alloc: Global, rows: &[&Row]) -> Result<Echelon, NoMemory>
         ensures { IfOk result (λ echelon. echelon ≡ []) }
     {
         Ok(Echelon {

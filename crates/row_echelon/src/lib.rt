@@ -8,9 +8,11 @@ mod elimination;
 mod inserted;
 mod kept;
 pub mod laws;
+mod referring;
 mod substitution;
 mod table;
 mod ways;
 
 pub use echelon::{Echelon, Reduced};
 pub use inserted::Inserted;
+pub use referring::references;

@@ -31,7 +31,7 @@ pub struct ByColumns {
 
 impl Table {
     /// The columns of these rows, where no row is kept. `None` where they are too many to have numbers.
-    pub fn over(alloc: Global, rows: &[Row]) -> Result<Option<Table>, NoMemory>
+    pub fn over(alloc: Global, rows: &[&Row]) -> Result<Option<Table>, NoMemory>
         ensures { IfOk result (λ found. AnyTable found []) }
     {
         match Columns::over(alloc, rows)? {

@@ -1,5 +1,6 @@
 use Rattle.std.proofs.Common.{◌≡◌, ◌∷◌, [], ◌++◌, ◌*◌, ◌<◌, length, sym, ◌∙◌, ap, subst, arith}
 use Rattle.std.specs.Prelude.{All, map}
+use Rattle.row_echelon.specs.References.{rows_of}
 use Rattle.relation_pick.specs.Picking.{rows_at}
 use Rattle.system_text.specs.declared.value.SectorBlock.{SectorBlock}
 use Rattle.sector_job.specs.Candidates.{labels}
@@ -52,5 +53,5 @@ returns c =
       covers = basis.covers;
       blocks = c.in_ok-push.ensures.items ∙ ap (λ (b : SectorBlock). c.args.gathered.now.blocks.items ++ b ∷ []) block;
       labels = c.in_ok-add_labels.ensures ∙ (λ i. before ++ map (label_at (labels (wide i) c.seeds-seeds.result.now)) c.basis-basis.result.now);
-      candidates = c.in_ok-add_rows.ensures ∙ ap (λ rows. c.args.gathered.now.candidates.items ++ rows_at rows c.basis-basis.result.now) c.as_slice.ensures;
+      candidates = c.in_ok-add_rows.ensures ∙ ap (λ rows. rows_of c.args.gathered.now.candidates.items ++ rows_at rows c.basis-basis.result.now) c.as_slice.ensures;
     }

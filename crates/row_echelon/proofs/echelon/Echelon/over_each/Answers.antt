@@ -2,7 +2,7 @@ use Rattle.std.proofs.Common.{subst, sym}
 use Rattle.row_echelon.specs.KeptRows.{IsEchelon, reduced_rows}
 use Rattle.row_echelon.specs.Tables.{AnyTable}
 use Rattle.row_echelon.proofs.Keeping.{IsEchelon-nil}
-use Rattle.row_echelon.proofs.echelon.Echelon.over.Goals as goal
+use Rattle.row_echelon.proofs.echelon.Echelon.over_each.Goals as goal
 
 pub invariant_of-result : goal.invariant_of-result
 invariant_of-result c = (
