@@ -1,3 +1,4 @@
 pub mod Jobs
 pub mod Portions
 pub mod Seats
+pub mod Shelf

@@ -1,9 +1,12 @@
 //! The system of a family, worked out by several workers at a desk.
 #![tactic(auto)]
 
+mod bases;
+mod entry;
 mod finishing;
 mod portions;
 mod seats;
+mod shelf;
 mod worker;
 mod workers;
 

@@ -2,6 +2,7 @@
 ghost use Rattle.std.specs.Prelude.{◌<◌, ℕ, length, slice_index_or};
 ghost use Rattle.neat_workers.specs.Seats.{KeepsParts};
 
+use crate::shelf::Shelf;
 use crate::worker::work_at;
 use ibp_outside::Gate;
 use relay_desk::{Desk, Seat};
@@ -23,6 +24,7 @@ pub fn work_at_all<
     alloc: Global,
     plan: &Plan,
     desk: &Desk<SectorResult, L, C>,
+    shelf: &Shelf,
     gate: &G,
     seats: &mut [Seat<L, C>],
 )
@@ -33,6 +35,6 @@ pub fn work_at_all<
         rt,
         seats,
         threads,
-        &|_, seat| work_at(rt, alloc, plan, desk, gate, seat),
+        &|_, seat| work_at(rt, alloc, plan, desk, shelf, gate, seat),
     );
 }

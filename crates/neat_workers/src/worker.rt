@@ -3,32 +3,77 @@ ghost use Rattle.std.specs.Prelude.{◌≡◌, ◌↔◌, IsTrue};
 ghost use Rattle.neat_workers.specs.Seats.{KeepsParts};
 ghost use Rattle.neat_workers.specs.Jobs.{FitsFamily};
 
+use crate::bases::{basis_for, work_ahead};
 use crate::portions::{Portion, portions_of};
+use crate::shelf::Shelf;
 use family::Family;
 use ibp_outside::Gate;
 use relay_core::{Job, Piece, Taken};
 use relay_desk::{Desk, Seat};
-use sector_job::{Plan, SectorResult, work_wide};
+use sector_job::{Plan, SectorResult, work_from};
 use sector_lattice::Sector;
 use std::alloc::Global;
 use std::sync::Wait;
 use std::sync::ledger::Ledger;
 use std::thread::Threads;
 
-// The next job. None where all is done or memory ran out.
-fn next_job<L: Ledger, C: Ledger, R: Wait>(
+// What a worker does next.
+#[derive(Drop)]
+enum Step {
+    // To work on a job.
+    Work(Job),
+    // To work the basis of a claimed sector ahead.
+    Ahead(Sector),
+    // To end, since all is done or memory ran out.
+    End,
+}
+
+// What the worker does next. Where no sector can be taken it claims one whose basis is surely needed, and where there is
+// none it waits. The shelf's lock is taken under the desk's, never the other way round.
+fn next_step<L: Ledger, C: Ledger, R: Wait>(
     rt: &R,
     desk: &Desk<SectorResult, L, C>,
+    shelf: &Shelf,
     seat: &mut Seat<L, C>,
-) -> Option<Job>
+) -> Step
     ensures { KeepsParts seat.old seat.new }
 {
     let mut guard = desk.locked.lock(rt);
     for _ in rt.forever() {
         match guard.take(seat) {
-            Ok(Taken::Job(job)) => return Some(job),
-            Ok(Taken::NotYet) => guard = desk.changed.wait(rt, guard),
-            Ok(Taken::Closed) | Err(_) => return None,
+            Ok(Taken::Job(job)) => return Step::Work(job),
+            Ok(Taken::NotYet) => {
+                if let Some(sector) = shelf.claim(rt, guard.state()) {
+                    return Step::Ahead(sector);
+                }
+                guard = desk.changed.wait(rt, guard);
+            }
+            Ok(Taken::Closed) | Err(_) => return Step::End,
+        }
+    }
+    unreachable!()
+}
+
+// The next job. Until there is one the worker works bases ahead. None where all is done or memory ran out.
+fn next_job<L: Ledger, C: Ledger, R: Wait>(
+    rt: &R,
+    alloc: Global,
+    plan: &Plan,
+    desk: &Desk<SectorResult, L, C>,
+    shelf: &Shelf,
+    seat: &mut Seat<L, C>,
+) -> Option<Job>
+    ensures { KeepsParts seat.old seat.new }
+{
+    for _ in rt.forever() {
+        match next_step(rt, desk, shelf, seat) {
+            Step::Work(job) => return Some(job),
+            Step::Ahead(sector) => {
+                if !work_ahead(rt, alloc, plan, shelf, sector) {
+                    return None;
+                }
+            }
+            Step::End => return None,
         }
     }
     unreachable!()
@@ -47,16 +92,18 @@ fn fits(family: &Family, job: &Job) -> bool
 const PARTS_OF_A_SECTOR: u32 = 2;
 
 // What comes of a job. None where it doesn't fit, or memory ran out.
-fn worked<R: Threads + Sync>(
+fn worked<R: Threads + Wait + Sync>(
     rt: &R,
     alloc: Global,
     plan: &Plan,
+    shelf: &Shelf,
     job: &Job,
 ) -> Option<SectorResult> {
-    if !fits(plan.family(), job) {
+    let basis = basis_for(rt, alloc, plan, shelf, job.sector)?;
+    if basis.sector() != job.sector || !fits(basis.plan().family(), job) {
         return None;
     }
-    work_wide(rt, alloc, plan, job, PARTS_OF_A_SECTOR).ok()
+    work_from(rt, alloc, basis, job, PARTS_OF_A_SECTOR).ok()
 }
 
 // Posts a portion of the tails of a piece, and answers whether that went through.
@@ -113,12 +160,13 @@ fn work_on<L: Ledger, C: Ledger, R: Threads + Wait + Sync>(
     alloc: Global,
     plan: &Plan,
     desk: &Desk<SectorResult, L, C>,
+    shelf: &Shelf,
     seat: &mut Seat<L, C>,
     job: &Job,
 ) -> bool
     ensures { KeepsParts seat.old seat.new }
 {
-    let Some(piece) = worked(rt, alloc, plan, job) else {
+    let Some(piece) = worked(rt, alloc, plan, shelf, job) else {
         return false;
     };
     if !post_tails(rt, alloc, desk, seat, &piece) {
@@ -137,25 +185,26 @@ fn give_back<L: Ledger, C: Ledger, R: Wait>(
     let _ = desk.locked.lock(rt).give_back(seat, sector);
 }
 
-/// Takes a job, passes the gate, works, posts and finishes, until all is done. A worker that cannot finish a job gives its
-/// sector back and ends, and the others go on.
+/// Takes a job, passes the gate, works, posts and finishes, until all is done. While no sector can be taken it works bases
+/// ahead, or waits. A worker that cannot finish a job gives its sector back and ends, and the others go on.
 pub fn work_at<L: Ledger, C: Ledger, R: Threads + Wait + Sync, G: Gate>(
     rt: &R,
     alloc: Global,
     plan: &Plan,
     desk: &Desk<SectorResult, L, C>,
+    shelf: &Shelf,
     gate: &G,
     seat: &mut Seat<L, C>,
 )
     ensures { KeepsParts seat.old seat.new }
 {
     for _ in rt.forever() {
-        let Some(job) = next_job(rt, desk, seat) else {
+        let Some(job) = next_job(rt, alloc, plan, desk, shelf, seat) else {
             return;
         };
         desk.changed.notify_all();
         gate.pass(seat.worker(), job.sector.0);
-        let finished = work_on(rt, alloc, plan, desk, seat, &job);
+        let finished = work_on(rt, alloc, plan, desk, shelf, seat, &job);
         if !finished {
             give_back(rt, desk, seat, job.sector);
         }

@@ -6,6 +6,7 @@ ghost use Rattle.neat_system.specs.Answer.{IsAnswerFor};
 
 use crate::finishing::finish_alone;
 use crate::seats::work_at_all;
+use crate::shelf::Shelf;
 use family::Family;
 use ibp_base::NoMemory;
 use ibp_outside::Gate;
@@ -39,11 +40,12 @@ pub fn left_by_workers<
     requires finishes { (finishes.name ≡ L.name) × (finishes.parts ≡ L.parts) × (L.parts ≡ workers) }
     requires closings { (closings.name ≡ C.name) × (closings.parts ≡ C.parts) × (C.parts ≡ workers) }
 {
+    let shelf = Shelf::of(alloc, plan.family())?;
     let state = opened(alloc, plan)?;
     let Opened { desk, mut seats } = Desk::<SectorResult, L, C>::open(
         alloc, state, workers, finishes, closings,
     )?;
-    work_at_all(rt, alloc, plan, &desk, gate, seats.as_mut_slice());
+    work_at_all(rt, alloc, plan, &desk, &shelf, gate, seats.as_mut_slice());
     let (state, _count) = desk.into_state(seats);
     Ok(state)
 }

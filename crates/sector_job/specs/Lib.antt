@@ -11,6 +11,7 @@ pub mod Candidates
 pub mod FieldTemplates
 pub mod Outcomes
 pub mod Results
+pub mod Ahead
 pub mod CandidateRows
 pub mod Tails
 pub mod OneOutcome

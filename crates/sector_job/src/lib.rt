@@ -1,6 +1,7 @@
 //! The work on one sector: its basis, its candidates, and the integrals that it hands down.
 #![tactic(auto)]
 
+mod ahead;
 mod bounds;
 mod candidates;
 mod found;
@@ -11,7 +12,8 @@ mod sector_result;
 mod tails;
 mod working;
 
+pub use ahead::SectorBasis;
 pub use outcome::Outcome;
 pub use plan::Plan;
 pub use sector_result::SectorResult;
-pub use working::{work, work_wide};
+pub use working::{work, work_from, work_wide};

@@ -161,8 +161,8 @@ fn has_terms(rt: &impl Abort, row: &Row, terms: &[(i16, i64)]) -> bool {
         })
 }
 
-// Whether the result of the first job of the quad has its basis, its candidates and its tail.
-fn is_work_of_the_quad(rt: &impl Abort, piece: &SectorResult) -> bool {
+/// Whether the result of the first job of the quad has its basis, its candidates and its tail.
+pub fn is_work_of_the_quad(rt: &impl Abort, piece: &SectorResult) -> bool {
     match piece.outcome() {
         Outcome::Worked {
             generators,
