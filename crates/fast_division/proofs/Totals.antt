@@ -41,6 +41,10 @@ IsBounded-at order [] i d h within = absurd (omega arith)
 IsBounded-at order (x ∷ levels) zero d h within = h.0
 IsBounded-at order (x ∷ levels) (suc i) d h within = IsBounded-at order levels i d h.1 (omega arith)
 
+pub AllKeys-of_append : (P : Term → Type 0) (f g : ModuleVector) → AllKeys P (f ++ g) → AllKeys P f × AllKeys P g
+AllKeys-of_append P [] g h = (tt, h)
+AllKeys-of_append P (t ∷ f) g h = let rest = AllKeys-of_append P f g h.1 in ((h.0, rest.0), rest.1)
+
 pub AllKeys-total : (order : Term → Term → Ordering) (P : Term → Type 0) → ((v : ModuleVector) → IsBounded order v → AllKeys P v) → (levels : List ModuleVector) → AllBounded order levels → AllKeys P (total levels)
 AllKeys-total order P each [] h = tt
 AllKeys-total order P each (v ∷ levels) h = AllKeys-append P v (total levels) (each v h.0) (AllKeys-total order P each levels h.1)
@@ -83,7 +87,7 @@ AllBounded-zeros order zero = tt
 AllBounded-zeros order (suc n) = (IsBounded-zero order, AllBounded-zeros order n)
 
 module _ {high : ℕ → Bool} {height : Term → ℕ} {bound : ℕ} (order : Term → Term → Ordering) (laws : IsTermOrder VARIABLES order high height bound) where
-  weight_of_normal : (w : Term → ℕ) (v f : ModuleVector) → v ≡ normal_form order f → IsCongruent (weighted_sum w v) (weighted_sum w f)
+  pub weight_of_normal : (w : Term → ℕ) (v f : ModuleVector) → v ≡ normal_form order f → IsCongruent (weighted_sum w v) (weighted_sum w f)
   weight_of_normal w v f is = subst (λ (u : ModuleVector). IsCongruent (weighted_sum w u) (weighted_sum w f)) (sym is) (weighted_sum-normal_form order laws.total laws.unique w f)
 
   -- equal sums have one normal form

@@ -1,5 +1,5 @@
 ghost use Rattle.std.specs.Prelude.{◌≡◌, ◌≢◌, ◌+◌, ◌<◌, ◌≤◌, ◌%◌, ◌↔◌, [], ◌∷◌, ◌++◌, length, sum, true, false, IsNone, IfSome, IfOk, OnOk, OnErr, IfNone};
-ghost use Rattle.ibp_algebra.specs.FormalSum.{AllKeys, scale};
+ghost use Rattle.ibp_algebra.specs.FormalSum.{AllKeys, normal_form, scale};
 ghost use Rattle.mono_order.specs.declared.limits.TheConstants.{VARIABLES, RUN_DEGREE};
 ghost use Rattle.module_vec.specs.ModuleVector.{SameVector, IsVector, multiply_vector};
 ghost use Rattle.module_vec.specs.Division.{is_over_degree, subtract_multiple};
@@ -42,7 +42,7 @@ impl<O: TermOrder> Model for BucketSum<O> {
 
 impl<O: TermOrder> BucketSum<O> {
     // The zero vector.
-    fn zero(alloc: Global) -> Result<BucketSum<O>, NoMemory>
+    pub(crate) fn zero(alloc: Global) -> Result<BucketSum<O>, NoMemory>
         ensures { IfOk result (λ b. b ≡ []) }
     {
         Ok(BucketSum {
@@ -90,26 +90,27 @@ impl<O: TermOrder> BucketSum<O> {
         ensures within { OnOk result (is_over_degree RUN_DEGREE (multiply_vector by.now other.now) ≡ false) }
         ensures over { result ≡ Err VectorFault.DegreeOver → is_over_degree RUN_DEGREE (multiply_vector by.now other.now) ≡ true }
     {
-        self.sub_terms(factor, by, other.terms())
+        let terms = other.terms();
+        if is_multiple_over(terms, by) {
+            return Err(VectorFault::DegreeOver);
+        }
+        self.add_terms(factor.neg(), by, terms)?;
+        Ok(())
     }
 
-    // The same of a part of a vector's terms.
-    pub(crate) fn sub_terms(
+    // Adds `factor` times `by` times the terms.
+    pub(crate) fn add_terms(
         &mut self,
         factor: Residue,
         by: &Monomial,
         terms: &[(Term, Residue)],
-    ) -> Result<(), VectorFault>
-        requires { IsVector O.order VARIABLES terms.now }
-        ensures difference { OnOk result (self.new ≡ subtract_multiple O.order self.old factor by.now terms.now) }
+    ) -> Result<(), NoMemory>
+        requires vector { IsVector O.order VARIABLES terms.now }
+        requires within { is_over_degree RUN_DEGREE (multiply_vector by.now terms.now) ≡ false }
+        ensures sum { OnOk result (self.new ≡ normal_form O.order (self.old ++ scale factor (multiply_vector by.now terms.now))) }
         ensures kept { OnErr result (self.new ≡ self.old) }
-        ensures within { OnOk result (is_over_degree RUN_DEGREE (multiply_vector by.now terms.now) ≡ false) }
-        ensures over { result ≡ Err VectorFault.DegreeOver → is_over_degree RUN_DEGREE (multiply_vector by.now terms.now) ≡ true }
     {
-        if is_multiple_over(terms, by) {
-            return Err(VectorFault::DegreeOver);
-        }
-        add_terms::<O>(&mut self.levels, &mut self.buffer, factor.neg(), by, terms)?;
+        add_terms::<O>(&mut self.levels, &mut self.buffer, factor, by, terms)?;
         Ok(())
     }
 

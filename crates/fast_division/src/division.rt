@@ -5,7 +5,7 @@ ghost use Rattle.mono_order.specs.Term.{divides, multiply_term};
 ghost use Rattle.module_vec.specs.ModuleVector.{IsMonic, IsVector, lead, multiple_value};
 ghost use Rattle.module_vec.specs.Division.{Remainder, OverDegree, DividesTo, is_over_degree, multiple_with_lead, subtract_multiple};
 
-use crate::bucket_sum::BucketSum;
+use crate::dividend::Dividend;
 use crate::index::LeadIndex;
 use ibp_base::NoMemory;
 use ibp_field::Residue;
@@ -28,8 +28,27 @@ pub fn normal_form_fast<O: TermOrder>(
     ensures within { OnOk result (¬ DividesTo O.order RUN_DEGREE list.now v.now OverDegree) }
     ensures over { result ≡ Err VectorFault.DegreeOver → DividesTo O.order RUN_DEGREE list.now v.now OverDegree }
 {
-    let mut rest = BucketSum::from(alloc, v)?;
-    drain_remainder(alloc, &mut rest, list, index)
+    let mut rest = Dividend::over(alloc, list)?;
+    remainder_by(alloc, &mut rest, v, list, index)
+}
+
+/// The remainder of a vector as `normal_form_fast` gives it, by a dividend whose memory serves one division after another.
+/// What it is before does not matter.
+pub fn remainder_by<O: TermOrder>(
+    alloc: Global,
+    rest: &mut Dividend<O>,
+    v: &Vector<O>,
+    list: &[Vector<O>],
+    index: &LeadIndex<O>,
+) -> Result<Vector<O>, VectorFault>
+    requires monic { All IsMonic list.now }
+    requires index { index.now ≡ map lead list.now }
+    ensures remainder { IfOk result (λ r. DividesTo O.order RUN_DEGREE list.now v.now (Remainder r)) }
+    ensures within { OnOk result (¬ DividesTo O.order RUN_DEGREE list.now v.now OverDegree) }
+    ensures over { result ≡ Err VectorFault.DegreeOver → DividesTo O.order RUN_DEGREE list.now v.now OverDegree }
+{
+    rest.assign(v)?;
+    drain_remainder(alloc, rest, list, index)
 }
 
 /// The index of the leads of a list of monic vectors.
@@ -48,10 +67,10 @@ pub fn index_leads<O: TermOrder>(
     Ok(index)
 }
 
-// The remainder of a sum. After it the sum is what the division had left.
+// The remainder of what is left.
 fn drain_remainder<O: TermOrder>(
     alloc: Global,
-    rest: &mut BucketSum<O>,
+    rest: &mut Dividend<O>,
     list: &[Vector<O>],
     index: &LeadIndex<O>,
 ) -> Result<Vector<O>, VectorFault>
@@ -72,7 +91,7 @@ fn drain_remainder<O: TermOrder>(
 
 // Takes off the multiple of the divisor whose lead is this term, which was taken off already.
 fn cancel<O: TermOrder>(
-    rest: &mut BucketSum<O>,
+    rest: &mut Dividend<O>,
     term: &Term,
     coefficient: Residue,
     divisor: &Vector<O>,

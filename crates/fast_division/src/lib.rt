@@ -2,11 +2,16 @@
 #![tactic(auto)]
 
 mod bucket_sum;
+mod dividend;
 mod division;
+mod extent;
 mod index;
 mod merge;
 mod partial;
+mod ranks;
+mod window;
 
 pub use bucket_sum::BucketSum;
-pub use division::{index_leads, normal_form_fast};
+pub use dividend::Dividend;
+pub use division::{index_leads, normal_form_fast, remainder_by};
 pub use index::LeadIndex;

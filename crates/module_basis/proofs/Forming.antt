@@ -1,7 +1,8 @@
 -- The pairs that an element forms with those before it, one by one, and the state that they lead to.
-use Rattle.std.proofs.Common.{◌≡◌, ℕ, suc, ◌+◌, ◌<◌, Bool, true, false, if◌then◌else◌, inl, inr, length, drop, List, [], ◌∷◌, ◌++◌, refl, ap, arith}
+use Rattle.std.proofs.Common.{◌≡◌, ℕ, suc, ◌+◌, ◌<◌, Bool, true, false, ◌||◌, if◌then◌else◌, inl, inr, sum, nat_lt, length, drop, get_or, List, [], ◌∷◌, ◌++◌, sym, refl, ap, ◌∙◌, arith}
 use Rattle.std.specs.Prelude.{nat_eq}
 use Rattle.std.specs.declared.cmp.Ordering.{Ordering}
+use Rattle.std.proofs.lemmas.List.{append_assoc, drop_more}
 use Rattle.std.proofs.lemmas.List.Elements.{All-push}
 use Rattle.mono_order.specs.Term.{Term, lcm_term}
 use Rattle.pair_queue.specs.declared.queue.Pair.{Pair}
@@ -14,6 +15,42 @@ use Rattle.module_basis.proofs.RunLaws.{Listed, listed, contained, from_insert, 
 pub record IsFormed (limit second : ℕ) (new : Term) (elements : List ModuleVector) (i : ℕ) (pairs : List Pair) : Type 0 where
   pub all : pairs ++ pairs_with second new (1 + i) (drop i elements) ≡ pairs_with second new 1 elements
   pub over : has_pair_over limit (pairs_with second new (1 + i) (drop i elements)) ≡ has_pair_over limit (pairs_with second new 1 elements)
+
+next_pairs : (second : ℕ) (new : Term) (elements : List ModuleVector) (i : ℕ) → pairs_with second new (1 + (i + 1)) (drop (i + 1) elements) ≡ pairs_with second new (suc (1 + i)) (drop (i + 1) elements)
+next_pairs second new elements i = let number : 1 + (i + 1) ≡ suc (1 + i) = omega arith in λ k. pairs_with second new (number k) (drop (i + 1) elements)
+
+pairs_step : (second : ℕ) (new : Term) (elements : List ModuleVector) (i : ℕ) (g : ModuleVector) → i < length elements → g ≡ get_or elements i g
+    → pairs_with second new (1 + i) (drop i elements) ≡ pairs_with second new (1 + i) (g ∷ drop (i + 1) elements)
+pairs_step second new elements i g within at = ap (pairs_with second new (1 + i)) (drop_more elements i g within ∙ (λ k. sym at k ∷ drop (i + 1) elements))
+
+-- the element at a place has no pair with the new one
+pub IsFormed-passed : (limit second : ℕ) (new : Term) (elements : List ModuleVector) (i : ℕ) (g : ModuleVector) (pairs : List Pair) → i < length elements → g ≡ get_or elements i g
+    → nat_eq (lead g).0 new.0 ≡ false → IsFormed limit second new elements i pairs → IsFormed limit second new elements (i + 1) pairs
+IsFormed-passed limit second new elements i g pairs within at apart h =
+    let rest = pairs_with second new (suc (1 + i)) (drop (i + 1) elements) in
+    let p : Pair = record { first = 1 + i; second = second; lcm = lcm_term (lead g) new } in
+    let step = pairs_step second new elements i g within at ∙ ap (λ b. if b then (p ∷ rest) else rest) apart in
+    let next = next_pairs second new elements i in
+    record {
+      all = ap (λ (l : List Pair). pairs ++ l) (next ∙ sym step) ∙ h.all;
+      over = ap (has_pair_over limit) (next ∙ sym step) ∙ h.over;
+    }
+
+-- its pair with the new one is appended
+pub IsFormed-more : (limit second : ℕ) (new : Term) (elements : List ModuleVector) (i : ℕ) (g : ModuleVector) (pairs after : List Pair) → i < length elements → g ≡ get_or elements i g
+    → nat_eq (lead g).0 new.0 ≡ true → nat_lt limit (sum (lcm_term (lead g) new).1) ≡ false
+    → after ≡ pairs ++ (record { first = i + 1; second = second; lcm = lcm_term (lead g) new }) ∷ [] → IsFormed limit second new elements i pairs → IsFormed limit second new elements (i + 1) after
+IsFormed-more limit second new elements i g pairs after within at same small is h =
+    let rest = pairs_with second new (suc (1 + i)) (drop (i + 1) elements) in
+    let p : Pair = record { first = 1 + i; second = second; lcm = lcm_term (lead g) new } in
+    let step = pairs_step second new elements i g within at ∙ ap (λ b. if b then (p ∷ rest) else rest) same in
+    let next = next_pairs second new elements i in
+    let number : i + 1 ≡ 1 + i = omega arith in
+    let after_is : after ≡ pairs ++ p ∷ [] = is ∙ (λ k. pairs ++ (record { first = number k; second = second; lcm = lcm_term (lead g) new }) ∷ []) in
+    record {
+      all = (λ k. after_is k ++ next k) ∙ append_assoc pairs (p ∷ []) rest ∙ ap (λ (l : List Pair). pairs ++ l) (sym step) ∙ h.all;
+      over = ap (has_pair_over limit) next ∙ sym (ap (λ b. b || has_pair_over limit rest) small) ∙ ap (has_pair_over limit) (sym step) ∙ h.over;
+    }
 
 -- ---- the pairs are new
 

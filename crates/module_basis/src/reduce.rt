@@ -9,7 +9,7 @@ ghost use Rattle.module_basis.specs.GroebnerBasis.{IsReducedLowBasis, IsTailRedu
 ghost use Rattle.module_basis.specs.Reducing.{Descends, IsSortedLow, IsKept};
 
 use crate::basis::Basis;
-use fast_division::{LeadIndex, normal_form_fast};
+use fast_division::{Dividend, LeadIndex, remainder_by};
 use ibp_base::{List, NoMemory};
 use module_vec::{Vector, VectorFault};
 use mono_order::{Term, TermOrder};
@@ -100,9 +100,10 @@ fn with_reduced_tails<O: TermOrder>(
     requires index { index.now ≡ map lead list.now }
     ensures { IfOk result (λ reduced. AllZip (IsTailReduced O.order VARIABLES list.now) list.now reduced.items) }
 {
+    let mut dividend = Dividend::over(alloc, list)?;
     let mut reduced = Vec::new(alloc);
     for vector in list {
-        reduced.push(with_reduced_tail(alloc, vector, list, index)?)?;
+        reduced.push(with_reduced_tail(alloc, &mut dividend, vector, list, index)?)?;
     }
     Ok(reduced)
 }
@@ -110,6 +111,7 @@ fn with_reduced_tails<O: TermOrder>(
 // A vector of the list with the terms below its lead reduced by the list.
 fn with_reduced_tail<O: TermOrder>(
     alloc: Global,
+    dividend: &mut Dividend<O>,
     vector: &Vector<O>,
     list: &[Vector<O>],
     index: &LeadIndex<O>,
@@ -126,7 +128,7 @@ fn with_reduced_tail<O: TermOrder>(
     let mut below = Vec::new(alloc);
     below.extend_from_slice(tail)?;
     let below = Vector::from_descending(below);
-    let rest = low_remainder(alloc, &below, list, index)?;
+    let rest = low_remainder(alloc, dividend, &below, list, index)?;
     let mut terms = Vec::new(alloc);
     terms.push(*first)?;
     terms.extend_from_slice(rest.terms())?;
@@ -136,6 +138,7 @@ fn with_reduced_tail<O: TermOrder>(
 // The remainder of a low vector, whose division meets no limit.
 fn low_remainder<O: TermOrder>(
     alloc: Global,
+    dividend: &mut Dividend<O>,
     v: &Vector<O>,
     list: &[Vector<O>],
     index: &LeadIndex<O>,
@@ -146,7 +149,7 @@ fn low_remainder<O: TermOrder>(
     requires low { AllKeys (λ t. (O.high t.0 ≡ false) × (sum t.1 ≤ RUN_DEGREE)) v.now }
     ensures { IfOk result (λ r. DividesTo O.order RUN_DEGREE list.now v.now (Remainder r)) }
 {
-    match normal_form_fast(alloc, v, list, index) {
+    match remainder_by(alloc, dividend, v, list, index) {
         Ok(rest) => Ok(rest),
         Err(VectorFault::DegreeOver) => unreachable!(),
         Err(VectorFault::NoMemory) => Err(NoMemory),

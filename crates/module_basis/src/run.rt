@@ -9,7 +9,7 @@ ghost use Rattle.module_basis.specs.PlainRun.{IsProper, IsSoundState, RunsTo, Do
 use crate::basis::Basis;
 use crate::fault::BasisFault;
 use crate::pairs::{formed_pairs, next_undropped, push_all};
-use fast_division::{LeadIndex, normal_form_fast};
+use fast_division::{Dividend, LeadIndex, remainder_by};
 use ibp_base::NoMemory;
 use module_division::s_vector;
 use module_vec::{Vector, VectorFault};
@@ -51,6 +51,8 @@ pub fn plain_run<O: TermOrder>(
 struct Run<O: TermOrder> {
     elements: Vec<Vector<O>>,
     index: LeadIndex<O>,
+    // It lends its memory to each division.
+    dividend: Dividend<O>,
     pairs: PairQueue<O>,
     taken: u64,
 }
@@ -78,19 +80,20 @@ impl<O: TermOrder> Run<O> {
         ensures not_spent { (result ≡ Err BasisFault.PairsSpent) → ⊥ }
         ensures vectors { OnOk result (All (IsVector O.order VARIABLES) generators.now) }
     {
-        let mut run = Run::empty(alloc, by);
+        let mut run = Run::empty(alloc, by, Dividend::over(alloc, generators)?);
         for generator in generators {
             run = run.added(alloc, made_monic(alloc, generator)?)?;
         }
         Ok(run)
     }
 
-    fn empty(alloc: Global, by: PairOrder) -> Run<O>
+    fn empty(alloc: Global, by: PairOrder, dividend: Dividend<O>) -> Run<O>
         ensures { result ≡ record { by = by; elements = []; pairs = []; taken = 0 } }
     {
         Run {
             elements: Vec::new(alloc),
             index: LeadIndex::empty(alloc),
+            dividend,
             pairs: PairQueue::empty(alloc, by),
             taken: 0,
         }
@@ -107,6 +110,7 @@ impl<O: TermOrder> Run<O> {
         let Run {
             mut elements,
             mut index,
+            dividend,
             mut pairs,
             taken,
         } = self;
@@ -118,6 +122,7 @@ impl<O: TermOrder> Run<O> {
         Ok(Run {
             elements,
             index,
+            dividend,
             pairs,
             taken,
         })
@@ -149,13 +154,15 @@ impl<O: TermOrder> Run<O> {
         let Run {
             elements,
             index,
+            mut dividend,
             pairs,
             taken,
         } = self;
-        let rest = remainder_of_pair(alloc, &elements, &index, pair)?;
+        let rest = remainder_of_pair(alloc, &mut dividend, &elements, &index, pair)?;
         let run = Run {
             elements,
             index,
+            dividend,
             pairs,
             taken: taken + 1,
         };
@@ -181,6 +188,7 @@ impl<O: TermOrder> Run<O> {
         let Run {
             elements,
             index: _,
+            dividend: _,
             pairs: _,
             taken,
         } = self;
@@ -203,6 +211,7 @@ fn made_monic<O: TermOrder>(alloc: Global, v: &Vector<O>) -> Result<Vector<O>, N
 // The remainder of a pair's S-vector by the elements.
 fn remainder_of_pair<O: TermOrder>(
     alloc: Global,
+    dividend: &mut Dividend<O>,
     elements: &[Vector<O>],
     index: &LeadIndex<O>,
     pair: &Pair,
@@ -223,5 +232,5 @@ fn remainder_of_pair<O: TermOrder>(
     let first = &elements[pair.first as usize - 1];
     let second = &elements[pair.second as usize - 1];
     let difference = s_vector(alloc, first, second)?;
-    normal_form_fast(alloc, &difference, elements, index)
+    remainder_by(alloc, dividend, &difference, elements, index)
 }

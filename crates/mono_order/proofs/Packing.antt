@@ -9,7 +9,7 @@ use Rattle.ibp_algebra.proofs.SumOfExponents.{sum-cons, sum-add_exponents, get_o
 use Rattle.mono_order.specs.declared.limits.TheConstants.{VARIABLES, MONO_DEGREE}
 use Rattle.mono_order.specs.declared.words.TheConstants.{BASE, THREE_DIGITS}
 use Rattle.mono_order.specs.Monomial.{IsMonomial}
-use Rattle.mono_order.specs.PartialSums.{partial_sum, word, word_from, digits, exponent_word, differences, exponents_of, ArePartialSums}
+use Rattle.mono_order.specs.PartialSums.{partial_sum, word, word_from, digits, exponent_word, running_sums, differences, exponents_of, ArePartialSums}
 use Rattle.mono_order.specs.Term.{divides_exponents, quotient_exponents}
 use Rattle.mono_order.proofs.Terms.{quotient-times, length-quotient}
 
@@ -86,18 +86,13 @@ digits-word_from k m e =
 
 -- ---- the exponents that the words keep
 
--- the partial sums from one place on
-abbrev sums_from : ℕ → List ℕ → List ℕ
-sums_from before [] = []
-sums_from before (x ∷ xs) = (before + x) ∷ sums_from (before + x) xs
-
-differences-sums : (before : ℕ) (xs : List ℕ) → differences before (sums_from before xs) ≡ xs
+differences-sums : (before : ℕ) (xs : List ℕ) → differences before (running_sums before xs) ≡ xs
 differences-sums before [] = refl
 differences-sums before (x ∷ xs) =
     let first : before + x - before ≡ x = omega arith in
     λ i. first i ∷ differences-sums (before + x) xs i
 
-sums-are : (before : ℕ) (xs ys : List ℕ) → length xs ≡ length ys → ((k : ℕ) → k < length xs → get_or ys k 0 ≡ before + partial_sum (k + 1) xs) → ys ≡ sums_from before xs
+sums-are : (before : ℕ) (xs ys : List ℕ) → length xs ≡ length ys → ((k : ℕ) → k < length xs → get_or ys k 0 ≡ before + partial_sum (k + 1) xs) → ys ≡ running_sums before xs
 sums-are before [] [] e at = refl
 sums-are before [] (y ∷ ys) e at = absurd (omega arith)
 sums-are before (x ∷ xs) [] e at = absurd (omega arith)
@@ -110,6 +105,16 @@ sums-are before (x ∷ xs) (y ∷ ys) e at =
     let there : get_or ys k 0 ≡ before + partial_sum (suc k + 1) (x ∷ xs) = at (suc k) (omega arith) in
     there ∙ ap (λ n. before + partial_sum n (x ∷ xs)) shift ∙ omega (arith, sum-cons x (take (k + 1) xs))) in
     λ i. first i ∷ rest i
+
+running_sums-from : (before : ℕ) (m : List ℕ) (k : ℕ) → k < length m → get_or (running_sums before m) k 0 ≡ before + partial_sum (k + 1) m
+running_sums-from before [] k e = absurd (omega arith)
+running_sums-from before (x ∷ m) zero e = let only : partial_sum 1 (x ∷ m) ≡ x = omega (arith, sum-cons x []) in ap (λ s. before + s) (sym only)
+running_sums-from before (x ∷ m) (suc k) e =
+    let shift : suc k + 1 ≡ suc (k + 1) = omega arith in
+    running_sums-from (before + x) m k (omega arith) ∙ omega (arith, sum-cons x (take (k + 1) m), ap (λ n. partial_sum n (x ∷ m)) shift)
+
+pub running_sums-at : (m : List ℕ) (k : ℕ) → k < length m → get_or (running_sums 0 m) k 0 ≡ partial_sum (k + 1) m
+running_sums-at m k e = running_sums-from 0 m k e ∙ omega arith
 
 -- the first twelve values of a function
 twelve : (ℕ → ℕ) → List ℕ
@@ -131,16 +136,21 @@ twelve-at f (suc (suc (suc (suc (suc (suc (suc (suc (suc (suc zero)))))))))) e =
 twelve-at f (suc (suc (suc (suc (suc (suc (suc (suc (suc (suc (suc zero))))))))))) e = refl
 twelve-at f (suc (suc (suc (suc (suc (suc (suc (suc (suc (suc (suc (suc k)))))))))))) e = absurd (omega arith)
 
-pub exponents-back : (m : List ℕ) → IsMonomial m → exponents_of (word_from 0 m) (word_from 4 m) (word_from 8 m) ≡ m
-unfolding exponents_of twelve
-exponents-back m h =
+-- the digits of the three words, one after the other
+pub digits-sums : (m : List ℕ) → IsMonomial m → digits (word_from 0 m) ++ digits (word_from 4 m) ++ digits (word_from 8 m) ≡ running_sums 0 m
+unfolding twelve
+digits-sums m h =
     let low = digits-word_from 0 m h.bounded in
     let middle = digits-word_from 4 m h.bounded in
     let high = digits-word_from 8 m h.bounded in
     let next : ℕ → ℕ = λ k. partial_sum (k + 1) m in
-    let sums : twelve next ≡ sums_from 0 m = sums-are 0 m (twelve next) h.each_variable (λ k below. twelve-at next k (omega (arith, below, h.each_variable)) ∙ omega arith)
+    let sums : twelve next ≡ running_sums 0 m = sums-are 0 m (twelve next) h.each_variable (λ k below. twelve-at next k (omega (arith, below, h.each_variable)) ∙ omega arith)
     in
-    (λ i. differences 0 (low i ++ middle i ++ high i)) ∙ ap (differences 0) sums ∙ differences-sums 0 m
+    (λ i. low i ++ middle i ++ high i) ∙ sums
+
+pub exponents-back : (m : List ℕ) → IsMonomial m → exponents_of (word_from 0 m) (word_from 4 m) (word_from 8 m) ≡ m
+unfolding exponents_of
+exponents-back m h = ap (differences 0) (digits-sums m h) ∙ differences-sums 0 m
 
 -- ---- words that are those of a monomial
 

@@ -76,7 +76,7 @@ deg_rev_lex-snoc xs ys x y =
     (flipped (sum xs) (sum ys) x y ((λ i. nat_cmp (sym (sum-snoc xs x) i) (sym (sum-snoc ys y) i)) ∙ e)))
 
 -- by the sum of one exponent more
-one_more : (k : ℕ) (a b : List ℕ) → k < length a → k < length b
+pub one_more : (k : ℕ) (a b : List ℕ) → k < length a → k < length b
     → deg_rev_lex (take (k + 1) a) (take (k + 1) b) ≡ ordering_then (nat_cmp (partial_sum (k + 1) a) (partial_sum (k + 1) b)) (deg_rev_lex (take k a) (take k b))
 one_more k a b p q =
     let shift : k + 1 ≡ suc k = omega arith in

@@ -62,6 +62,7 @@ module _ (high : ℕ → Bool) where
         kept = block_kept variables;
         one_least = λ c m p. block_one_least variables c m p;
         high_above = λ s t a b. λ i. ordering_then (bool_cmp (a i) (b i)) (over_position s t);
+        within_kind = within_kind;
         degree_first = block_degree;
         height_falls = λ s t h k same e. numbered_height-rise s.0 t.0 s.1 t.1 (h.exponents ∙ sym k.exponents) k.component (sym (within_kind s t same) ∙ e);
         height_bounded = λ t h small. numbered_height-bound variables MONO_DEGREE t.0 t.1 h.exponents small;

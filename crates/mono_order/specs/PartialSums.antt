@@ -5,6 +5,7 @@
 --     word_from k m                the word of the four partial sums that follow e_1 + .. + e_k
 --     digits w                     the digits of a word
 --     exponent_word k m            the word of the four exponents e_(k+1), .., e_(k+4)
+--     running_sums before xs       the sums of the first numbers, each on top of `before`
 --     differences before xs        how far each number is above the one before it, and the first above `before`
 --     exponents_of low middle high     the exponents that three words keep
 -- Source: packed exponents as in Polynomial Division Using Dynamic Arrays, Heaps, and Packed Exponent Vectors of Monagan and Pearce.
@@ -30,6 +31,10 @@ AreFree w = (w % BASE < TOP) × (w / BASE % BASE < TOP) × (w / BASE / BASE % BA
 
 unfoldable pub exponent_word : ℕ → List ℕ → ℕ
 exponent_word k m = word (slice_index_or m k 0) (slice_index_or m (k + 1) 0) (slice_index_or m (k + 2) 0) (slice_index_or m (k + 3) 0)
+
+abbrev pub running_sums : ℕ → List ℕ → List ℕ
+running_sums before [] = []
+running_sums before (x ∷ xs) = (before + x) ∷ running_sums (before + x) xs
 
 abbrev pub differences : ℕ → List ℕ → List ℕ
 differences before [] = []

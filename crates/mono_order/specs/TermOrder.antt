@@ -58,6 +58,7 @@ pub record IsTermOrder (variables : ℕ) (order : Term → Term → Ordering) (h
       → order (multiply_term m s) (multiply_term m t) ≡ order s t
   pub one_least : (component : ℕ) (m : List ℕ) → length m ≡ variables → order (component, m) (component, replicate variables 0) ≢ Less
   pub high_above : (s t : Term) → high s.0 ≡ true → high t.0 ≡ false → order s t ≡ Greater
+  pub within_kind : (s t : Term) → high s.0 ≡ high t.0 → order s t ≡ over_position s t
   pub degree_first : (s t : Term) → high s.0 ≡ false → high t.0 ≡ false → sum t.1 < sum s.1 → order s t ≡ Greater
   pub height_falls : (s t : Term) → IsTerm variables s → IsTerm variables t → high s.0 ≡ high t.0 → order s t ≡ Greater → height t < height s
   pub height_bounded : (t : Term) → IsTerm variables t → sum t.1 ≤ MONO_DEGREE → height t < bound

@@ -4,7 +4,7 @@ ghost use Rattle.std.specs.Prelude.{ℕ, List};
 ghost use Rattle.std.specs.declared.cmp.Ordering.{Ordering};
 ghost use Rattle.mono_order.specs.declared.limits.TheConstants.{VARIABLES};
 ghost use Rattle.mono_order.specs.Monomial.{IsMonomial};
-ghost use Rattle.mono_order.specs.PartialSums.{exponent_word};
+ghost use Rattle.mono_order.specs.PartialSums.{exponent_word, running_sums};
 ghost use Rattle.mono_order.specs.Term.{divides_exponents, quotient_exponents, lcm_exponents};
 ghost use Rattle.mono_order.specs.MonomialOrder.{IsMonomialOrder};
 
@@ -102,6 +102,20 @@ impl Monomial {
         let low = digits(words[0]);
         let middle = digits(words[1]);
         let high = digits(words[2]);
+        [
+            low[0], low[1], low[2], low[3], middle[0], middle[1], middle[2], middle[3], high[0],
+            high[1], high[2], high[3],
+        ]
+    }
+
+    /// The sums e_1 + .. + e_k of the first exponents, for k from 1.
+    pub fn partial_sums(&self) -> [u16; VARIABLES]
+        ensures value { result ≡ running_sums 0 self.now }
+        ensures kept { IsMonomial self.now }
+    {
+        let low = digits(self.low);
+        let middle = digits(self.middle);
+        let high = digits(self.high);
         [
             low[0], low[1], low[2], low[3], middle[0], middle[1], middle[2], middle[3], high[0],
             high[1], high[2], high[3],

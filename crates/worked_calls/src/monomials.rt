@@ -52,6 +52,12 @@ fn order_of<O: TermOrder>(left: &Term, right: &Term) -> (Ordering, bool) {
     (O::compare(left, right), O::is_high(left.component))
 }
 
+#[test]
+fn a_monomial_tells_the_sums_of_its_first_exponents(rt: HostRuntime) {
+    let sums = monomial(&rt, 2, 0, 1).partial_sums();
+    assert_eq!(rt; sums, [2, 2, 3, 3, 3, 3, 3, 3, 3, 3, 3, 3]);
+}
+
 fn term(component: u8, monomial: Monomial) -> Term {
     Term {
         component,

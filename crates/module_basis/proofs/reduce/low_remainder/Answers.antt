@@ -9,6 +9,6 @@ pub unreachable-requires : goal.unreachable-requires
 unreachable-requires g c =
     let order = g.O.TermOrder.order in
     let low = low_division g.met.O.TermOrder.laws c.args.list.now c.requires.monic RUN_DEGREE c.args.v.now c.requires.vector.canonical c.requires.vector.terms c.requires.low in
-    let over = c.normal_form_fast.ensures.over (cc) in
+    let over = c.remainder_by.ensures.over (cc) in
     let clash : Remainder low.0 ≡ OverDegree = DividesTo-unique order RUN_DEGREE c.args.list.now c.args.v.now (Remainder low.0) OverDegree low.1 over in
     cc

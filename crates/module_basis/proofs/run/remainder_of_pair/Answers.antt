@@ -57,9 +57,9 @@ returns-clause-within g c =
     let within = pair_within RUN_DEGREE (get_or c.args.elements.now (c.args.pair.now.first - 1) []) (get_or c.args.elements.now (c.args.pair.now.second - 1) []) c.args.pair.now.lcm p.lcm
     (sym (λ i. is_s_vector_over RUN_DEGREE (first i) (second i)) ∙ c.in_ok-difference.ensures.within)
     in
-    IfOk-weaker c.normal_form_fast.result (λ r. DividesTo order RUN_DEGREE c.args.elements.now c.in_ok-difference.difference (Remainder r))
+    IfOk-weaker c.remainder_by.result (λ r. DividesTo order RUN_DEGREE c.args.elements.now c.in_ok-difference.difference (Remainder r))
     (λ r. is_pair_over RUN_DEGREE (get_or c.args.elements.now (c.args.pair.now.first - 1) []) (get_or c.args.elements.now (c.args.pair.now.second - 1) []) c.args.pair.now.lcm ≡ false)
-    (λ r d. within) c.normal_form_fast.ensures.remainder
+    (λ r d. within) c.remainder_by.ensures.remainder
 
 pub returns-clause-remainder : goal.returns-clause-remainder
 returns-clause-remainder g c =
@@ -68,9 +68,9 @@ returns-clause-remainder g c =
     let first = c.index-elements-pair.is ∙ get_or_default c.args.elements.now (c.args.pair.now.first - 1) c.index-elements-pair.result [] p.first_within in
     let second = c.index-elements-pair-2.is ∙ get_or_default c.args.elements.now (c.args.pair.now.second - 1) c.index-elements-pair-2.result [] p.second_within in
     let difference = c.in_ok-difference.ensures.difference ∙ (λ i. s_vector order (first i) (second i)) in
-    IfOk-weaker c.normal_form_fast.result (λ r. DividesTo order RUN_DEGREE c.args.elements.now c.in_ok-difference.difference (Remainder r))
+    IfOk-weaker c.remainder_by.result (λ r. DividesTo order RUN_DEGREE c.args.elements.now c.in_ok-difference.difference (Remainder r))
     (λ r. DividesTo order RUN_DEGREE c.args.elements.now (s_vector order (get_or c.args.elements.now (c.args.pair.now.first - 1) []) (get_or c.args.elements.now (c.args.pair.now.second - 1) [])) (Remainder r))
-    (λ r d. subst (λ (v : ModuleVector). DividesTo order RUN_DEGREE c.args.elements.now v (Remainder r)) difference d) c.normal_form_fast.ensures.remainder
+    (λ r d. subst (λ (v : ModuleVector). DividesTo order RUN_DEGREE c.args.elements.now v (Remainder r)) difference d) c.remainder_by.ensures.remainder
 
 pub returns-clause-over : goal.returns-clause-over
 returns-clause-over g c = λ e.
@@ -82,4 +82,4 @@ returns-clause-over g c = λ e.
     let within = pair_within RUN_DEGREE (get_or c.args.elements.now (c.args.pair.now.first - 1) []) (get_or c.args.elements.now (c.args.pair.now.second - 1) []) c.args.pair.now.lcm p.lcm
     (sym (λ i. is_s_vector_over RUN_DEGREE (first i) (second i)) ∙ c.in_ok-difference.ensures.within)
     in
-    inr (within, subst (λ (v : ModuleVector). DividesTo order RUN_DEGREE c.args.elements.now v OverDegree) difference (c.normal_form_fast.ensures.over e))
+    inr (within, subst (λ (v : ModuleVector). DividesTo order RUN_DEGREE c.args.elements.now v OverDegree) difference (c.remainder_by.ensures.over e))

@@ -1,0 +1,15 @@
+use Rattle.std.proofs.Common.{◌<◌, ◌≤◌, sum, sym, subst, arith}
+use Rattle.mono_order.specs.Term.{Term}
+use Rattle.mono_order.specs.declared.limits.TheConstants.{RUN_DEGREE}
+use Rattle.fast_division.proofs.Windows.{HasPlace-tested}
+use Rattle.fast_division.proofs.window.Places.has.Goals as goal
+
+pub returns : goal.returns
+returns c =
+    let places = c.args.self.now in
+    let key : Term = (c.key.inside.component, c.key.inside.monomial) in
+    let fits : key.0 < 256 = omega arith in
+    let degree : sum key.1 ≤ RUN_DEGREE = subst (λ (t : Term). sum t.1 ≤ RUN_DEGREE) (sym c.key.view_is) c.requires in
+    let n = c.variables.ensures in
+    HasPlace-tested c.variables.result places.ranks.0 places.first places.count key c.args.key.now c.partial_sums-sums.result n.some n.few fits c.partial_sums-sums.ensures.kept degree
+    c.partial_sums-sums.ensures.value n.variables c.key.view_is
