@@ -3,7 +3,7 @@ use Rattle.std.proofs.Common.{◌≡◌, ◌≢◌, ℕ, ◌*◌, ◌≤◌, Boo
 use Rattle.std.specs.declared.cmp.Ordering.{Ordering}
 use Rattle.std.specs.declared.cmp.Ordering.TheVariants.{Less, Greater}
 use Rattle.std.proofs.lemmas.List.{append-nil}
-use Rattle.ibp_algebra.specs.FormalSum.{weighted_sum, AllKeys, AllBelow, IsCanonical, scale, normal_form}
+use Rattle.ibp_algebra.specs.FormalSum.{AllKeys, AllBelow, IsCanonical, scale, normal_form}
 use Rattle.ibp_algebra.proofs.Weights.{weighted_sum-append, SameCoefficients-from_weights}
 use Rattle.ibp_algebra.proofs.Canonical.{Less-reverse}
 use Rattle.ibp_algebra.proofs.Combinations.{AllKeys-weaker}

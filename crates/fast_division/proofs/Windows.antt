@@ -1,35 +1,37 @@
 -- The vector of an array of residues, where one of them changes.
-use Rattle.std.proofs.Common.{◌≡◌, ◌≢◌, ℕ, zero, suc, ◌+◌, ◌-◌, ◌*◌, ◌%◌, ◌<◌, ◌≤◌, Bool, true, false, cond, if◌then◌else◌, ◌==◌, replicate, sum, max, length, get_or, set, take, List, [], ◌∷◌, ◌++◌, sym, refl, ap, subst, ◌∙◌, ⊎_elim, arith}
+use Rattle.std.proofs.Common.{◌≡◌, ◌≢◌, ℕ, zero, suc, ◌+◌, ◌-◌, ◌*◌, ◌%◌, ◌<◌, ◌≤◌, Bool, true, false, cond, if◌then◌else◌, ◌==◌, replicate, sum, max, length, get_or, set, take, drop, List, [], ◌∷◌, ◌++◌, sym, refl, ap, subst, ◌∙◌, ⊎_elim, arith}
 use Rattle.std.specs.Prelude.{nat_eq, nat_le, nat_lt, ◌&&◌}
 use Rattle.std.specs.Bool.{OnTrue}
 use Rattle.std.proofs.Math.Seq.{take-length}
 use Rattle.std.specs.Cmp.{unsigned_Decides, ranks}
-use Rattle.std.proofs.lemmas.Bool.{cases_lt, leb-true, ltb-true, OnTrue_from}
+use Rattle.std.proofs.lemmas.Bool.{cases_lt, leb-true, ltb-true, OnTrue_from, OnTrue_at}
 use Rattle.ibp_base.proofs.Tests.{both_true}
 use Rattle.std.proofs.Math.Dec.{eqb}
 use Rattle.std.proofs.lemmas.Bool.Decides.{eqb_tells}
-use Rattle.std.proofs.lemmas.List.{get_or-set_same, get_or-set_other, get_or_append_left, set-get_or, length-set, length-append, length-replicate}
+use Rattle.std.proofs.lemmas.List.{get_or-drop, get_or-take, get_or-set_same, get_or-set_other, get_or_append_left, set-get_or, length-set, length-append, length-replicate}
 use Rattle.std.specs.declared.cmp.Ordering.{Ordering}
 use Rattle.std.specs.declared.cmp.Ordering.TheVariants.{Less, Equal, Greater}
 use Rattle.std.specs.Ordering.{nat_cmp, ord_max, is_lt, MatchOrdering}
 use Rattle.ibp_field.specs.Arithmetic.{IsCongruent}
 use Rattle.ibp_field.proofs.Congruence.{IsCongruent-refl, IsCongruent-mul}
 use Rattle.ibp_algebra.specs.FormalSum.{weighted_sum, AllKeys, scale, normal_form}
+use Rattle.ibp_algebra.specs.Exponents.{add_exponents}
+use Rattle.ibp_algebra.proofs.SumOfExponents.{sum-add_exponents}
 use Rattle.ibp_algebra.proofs.Weights.{weighted_sum-append, weighted_sum-scale, weighted_sum-SameCoefficients, SameCoefficients-from_weights}
 use Rattle.ibp_algebra.proofs.ZeroDivisors.{AllKeys-append}
 use Rattle.ibp_algebra.proofs.NormalForm.{weighted_sum-normal_form, IsCanonical-normal_form, AllKeys-normal_form}
 use Rattle.mono_order.specs.declared.limits.TheConstants.{VARIABLES, RUN_DEGREE}
 use Rattle.mono_order.specs.Monomial.{IsMonomial}
 use Rattle.mono_order.specs.PartialSums.{partial_sum, running_sums}
-use Rattle.mono_order.proofs.Packing.{running_sums-at}
+use Rattle.mono_order.proofs.Packing.{running_sums-at, partial_sum-add}
 use Rattle.mono_order.specs.Term.{Term, same_term, multiply_term, IsTerm}
 use Rattle.mono_order.specs.TermOrder.{IsTermOrder}
-use Rattle.mono_order.proofs.Terms.{terms_decide}
+use Rattle.mono_order.proofs.Terms.{terms_decide, IsTerm-multiply}
 use Rattle.module_vec.specs.ModuleVector.{ModuleVector, SameVector, multiply_vector}
 use Rattle.module_vec.proofs.Degrees.{multiple_more, AllKeys-at}
 use Rattle.module_vec.proofs.NormalForms.{is_normal_form, IsVector-normal, AllKeys-normal}
 use Rattle.fast_division.specs.PartialSums.{IsBounded}
-use Rattle.fast_division.specs.Ranks.{below, place_of_term, HasPlace}
+use Rattle.fast_division.specs.Ranks.{below, place_of_term, IsOfFirst, HasPlace}
 use Rattle.fast_division.specs.Windows.{vector_of, IsWindow, IsWidened, IsReached}
 use Rattle.fast_division.proofs.Merges.{length-multiply, multiple_at}
 use Rattle.fast_division.proofs.RankOrder.{place-within, place-unique, place-order}
@@ -119,20 +121,19 @@ multiple_has P m v i item key within is key_is h =
 
 -- one more multiple of a term in a sum
 pub multiple_added : (before old new : ModuleVector) (factor product : ℕ) (m : List ℕ) (v : ModuleVector) (i : ℕ) (item : Term × ℕ) (key : Term) → i < length v → item ≡ get_or v i item
-    → key ≡ multiply_term m item.0 → product ≡ (factor * item.1) % 2147483647 → ((w : Term → ℕ) → IsCongruent (weighted_sum w new) (weighted_sum w old + product * w key))
+    → key ≡ multiply_term m item.0 → product ≡ factor * item.1 → ((w : Term → ℕ) → IsCongruent (weighted_sum w new) (weighted_sum w old + product * w key))
     → SameVector old (before ++ scale factor (multiply_vector m (take i v))) → SameVector new (before ++ scale factor (multiply_vector m (take (i + 1) v)))
 multiple_added before old new factor product m v i item key within is key_is product_is added same =
     let front = multiply_vector m (take i v) in
     let more : front ++ (key, item.1) ∷ [] ≡ multiply_vector m (take (i + 1) v) = multiple_more m v front (front ++ (key, item.1) ∷ []) i item key within is key_is refl refl in
     SameCoefficients-from_weights same_term terms_decide new (before ++ scale factor (multiply_vector m (take (i + 1) v))) (λ w.
     let s = weighted_sum-SameCoefficients same_term terms_decide w old (before ++ scale factor front) same in
-    let one : IsCongruent (product * w key) (factor * item.1 * w key) = IsCongruent-mul (record { same_residue = omega (arith, product_is) }) (IsCongruent-refl (w key)) in
     record {
       same_residue = omega (
         arith,
         (added w).same_residue,
         s.same_residue,
-        one.same_residue,
+        ap (λ x. x * w key) product_is,
         weighted_sum-append w before (scale factor front),
         weighted_sum-append w before (scale factor (multiply_vector m (take (i + 1) v))),
         weighted_sum-scale w factor front,
@@ -151,27 +152,54 @@ max_above a b =
       | Greater ↦ λ more. (omega arith, omega arith)
     ] (ranks b a)
 
+pub max_within : (a b m : ℕ) → a ≤ m → b ≤ m → ord_max nat_cmp a b ≤ m
+max_within a b m h k =
+    elim (nat_cmp b a) as (λ r. MatchOrdering r (b < a) (b ≡ a) (a < b) → cond (is_lt r) a b ≤ m) [
+      | Less ↦ λ less. h
+      | Equal ↦ λ same. k
+      | Greater ↦ λ more. k
+    ] (ranks b a)
+
+-- what the test of the sums of a power product says
+pub IsOfFirst-tested : (n variables : ℕ) (m sums : List ℕ) → 0 < n → n ≤ VARIABLES → IsMonomial m → sums ≡ running_sums 0 m → n ≡ variables
+    → OnTrue (nat_eq (get_or sums (n - 1) 0) (get_or sums 11 0)) (IsOfFirst variables m)
+IsOfFirst-tested n variables m sums some few monomial sums_are n_is =
+    OnTrue_from _ (IsOfFirst variables m) (λ e.
+    let same : get_or sums (n - 1) 0 ≡ get_or sums 11 0 = (unsigned_Decides (get_or sums (n - 1) 0) (get_or sums 11 0)).0 e in
+    let at : get_or sums (n - 1) 0 ≡ partial_sum (n - 1 + 1) m = ap (λ s. get_or s (n - 1) 0) sums_are ∙ running_sums-at m (n - 1) (omega (arith, monomial.each_variable)) in
+    let whole : get_or sums 11 0 ≡ partial_sum 12 m = ap (λ s. get_or s 11 0) sums_are ∙ running_sums-at m 11 (omega (arith, monomial.each_variable)) in
+    let all : partial_sum 12 m ≡ sum m = ap sum (ap (λ k. take k m) (sym monomial.each_variable) ∙ take-length m) in
+    subst (λ k. IsOfFirst k m) n_is (ap (λ k. partial_sum k m) (let e : n ≡ n - 1 + 1 = omega arith in e) ∙ sym at ∙ same ∙ whole ∙ all))
+
 -- what the tests of a term say
-pub HasPlace-tested : (n variables first count : ℕ) (key now : Term) (sums : List ℕ) → 0 < n → n ≤ VARIABLES → key.0 < 256 → IsMonomial key.1 → sum key.1 ≤ RUN_DEGREE → sums ≡ running_sums 0 key.1
-    → n ≡ variables → key ≡ now → OnTrue ((nat_eq (get_or sums (n - 1) 0) (get_or sums 11 0) && nat_le first key.0) && nat_lt key.0 (first + count)) (HasPlace variables first count now)
-HasPlace-tested n variables first count key now sums some few small monomial degree sums_are n_is key_is =
-    OnTrue_from _ (HasPlace variables first count now) (λ e.
+pub HasPlace-tested : (n first count : ℕ) (of_first : Bool) (key now : Term) → key.0 < 256 → IsMonomial key.1 → sum key.1 ≤ RUN_DEGREE → key ≡ now → OnTrue of_first (IsOfFirst n key.1)
+    → OnTrue ((of_first && nat_le first key.0) && nat_lt key.0 (first + count)) (HasPlace n first count now)
+HasPlace-tested n first count of_first key now small monomial degree key_is tested =
+    OnTrue_from _ (HasPlace n first count now) (λ e.
     let outer = both_true _ _ e in
     let inner = both_true _ _ outer.0 in
-    let same : get_or sums (n - 1) 0 ≡ get_or sums 11 0 = (unsigned_Decides (get_or sums (n - 1) 0) (get_or sums 11 0)).0 inner.0 in
-    let at : get_or sums (n - 1) 0 ≡ partial_sum (n - 1 + 1) key.1 = ap (λ s. get_or s (n - 1) 0) sums_are ∙ running_sums-at key.1 (n - 1) (omega (arith, monomial.each_variable)) in
-    let whole : get_or sums 11 0 ≡ partial_sum 12 key.1 = ap (λ s. get_or s 11 0) sums_are ∙ running_sums-at key.1 11 (omega (arith, monomial.each_variable)) in
-    let all : partial_sum 12 key.1 ≡ sum key.1 = ap sum (ap (λ k. take k key.1) (sym monomial.each_variable) ∙ take-length key.1) in
     let has : HasPlace n first count key =
     record {
       term = record { component = small; exponents = monomial.each_variable };
       degree = degree;
-      variables = ap (λ k. partial_sum k key.1) (let e : n ≡ n - 1 + 1 = omega arith in e) ∙ sym at ∙ same ∙ whole ∙ all;
+      variables = OnTrue_at inner.0 tested;
       from = leb-true first key.0 inner.1;
       upto = ltb-true key.0 (first + count) outer.1;
     }
     in
-    subst (λ k. HasPlace k first count now) n_is (subst (HasPlace n first count) key_is has))
+    subst (HasPlace n first count) key_is has)
+
+-- a multiple of a term with a place has one
+pub HasPlace-multiple : (n first count : ℕ) (m : List ℕ) (t : Term) → length m ≡ VARIABLES → IsOfFirst n m → HasPlace n first count t → sum (add_exponents m t.1) ≤ RUN_DEGREE
+    → HasPlace n first count (multiply_term m t)
+HasPlace-multiple n first count m t long of_first has small =
+    record {
+      term = IsTerm-multiply VARIABLES m t long has.term;
+      degree = small;
+      variables = omega (arith, partial_sum-add n m t.1 (long ∙ sym has.term.exponents), of_first, has.variables, sum-add_exponents m t.1);
+      from = has.from;
+      upto = has.upto;
+    }
 
 -- all terms of at most a degree have their places among those of the degree
 pub IsReached-all : (n first count degree degrees places : ℕ) (f : ModuleVector) → degree + 1 < degrees → below n (degree + 1) * count ≤ places
@@ -209,6 +237,22 @@ zeroed_at [] i = refl
 zeroed_at (v ∷ values) zero = refl
 zeroed_at (v ∷ values) (suc i) = zeroed_at values i
 
+-- a block of zeros below other zeros
+pub zeros_more : (values old : List ℕ) (top end block : ℕ) → values ≡ old → block ≤ top → ((j : ℕ) → get_or (take (top - (top - block)) (drop (top - block) values)) j 0 ≡ 0)
+    → ((i : ℕ) → top ≤ i → i < end → get_or old i 0 ≡ 0) → (i : ℕ) → top - block ≤ i → i < end → get_or old i 0 ≡ 0
+zeros_more values old top end block same within zeros above i from upto =
+    ⊎_elim
+    (λ (inside : i < top).
+    let j = i - (top - block) in
+    let at : top - block + j ≡ i = omega arith in
+    ap (λ l. get_or l i 0) (sym same)
+    ∙ ap (λ k. get_or values k 0) (sym at)
+    ∙ sym (get_or-drop (top - block) values j 0)
+    ∙ sym (get_or-take (top - (top - block)) (drop (top - block) values) j 0 (omega arith))
+    ∙ zeros j)
+    (λ (past : top ≤ i). above i past upto)
+    (cases_lt i top)
+
 module _ (high : ℕ → Bool) (n first count top : ℕ) (terms : List Term) (values : List ℕ) (h : IsWindow high n first count top terms values) where
   pub IsWindow-roomy : (more : List Term) (k : ℕ) → length values + k ≤ length (terms ++ more) → IsWindow high n first count top (terms ++ more) (values ++ replicate k 0)
   IsWindow-roomy more k room =
@@ -229,7 +273,7 @@ module _ (high : ℕ → Bool) (n first count top : ℕ) (terms : List Term) (va
         within = omega (arith, h.within, long);
       }
 
-  pub vector_of-roomy : (more : List Term) (k : ℕ) → vector_of (terms ++ more) (values ++ replicate k 0) ≡ vector_of terms values
+  vector_of-roomy : (more : List Term) (k : ℕ) → vector_of (terms ++ more) (values ++ replicate k 0) ≡ vector_of terms values
   vector_of-roomy more k = vector_of-more_values (terms ++ more) values k ∙ vector_of-more_terms terms more values h.long
 
   pub IsWindow-widened : (other new_top : ℕ) (new_terms : List Term) (new_values : List ℕ) → other ≡ n → new_top ≡ top → IsWidened terms new_terms values new_values

@@ -4,10 +4,12 @@ ghost use Rattle.ibp_algebra.specs.FormalSum.{AllKeys, normal_form, scale};
 ghost use Rattle.mono_order.specs.declared.limits.TheConstants.{VARIABLES, RUN_DEGREE};
 ghost use Rattle.module_vec.specs.ModuleVector.{IsVector, multiply_vector};
 ghost use Rattle.module_vec.specs.Division.{is_over_degree, subtract_multiple};
+ghost use Rattle.fast_division.specs.Kept.{ArePlaces, IsRow};
 ghost use Rattle.fast_division.specs.PartialSums.{IsBounded};
 
 use crate::bucket_sum::BucketSum;
 use crate::extent::Extent;
+use crate::kept::{Placed, Row};
 use crate::merge::is_multiple_over;
 use crate::window::Window;
 use ibp_base::NoMemory;
@@ -27,6 +29,8 @@ pub struct Dividend<O: TermOrder> {
     low: Window<O>,
     buckets: BucketSum<O>,
     is_dense: bool,
+    // Which lead was taken off last: a number for each place in a dense sum, and 0 for no such lead.
+    lead: usize,
 }
 
 impl<O: TermOrder> Model for Dividend<O> {
@@ -51,6 +55,7 @@ impl<O: TermOrder> Dividend<O> {
             low: Extent::of(vectors, false).window(alloc),
             buckets: BucketSum::zero(alloc)?,
             is_dense: true,
+            lead: 0,
         })
     }
 
@@ -67,6 +72,7 @@ impl<O: TermOrder> Dividend<O> {
         ensures { self.new ≡ [] }
     {
         'terms: while self.take_lead().is_some() {}
+        self.is_dense = true;
     }
 
     // This vector minus `factor` times `by` times the terms.
@@ -88,6 +94,60 @@ impl<O: TermOrder> Dividend<O> {
         Ok(())
     }
 
+    // The same for a multiple whose places are kept.
+    pub(crate) fn sub_kept(
+        &mut self,
+        factor: Residue,
+        row: &Row,
+        terms: &[(Term, Residue)],
+    ) -> Result<(), NoMemory>
+        requires vector { IsVector O.order VARIABLES terms.now }
+        requires row { IsRow O.high row.now terms.now }
+        ensures { OnOk result (self.new ≡ subtract_multiple O.order self.old factor row.now.by terms.now) }
+    {
+        let (above, below) = terms.split_at(row.high.places.len());
+        self.add_parts(
+            (Some(&row.high), Some(&row.low)),
+            factor.neg(),
+            &row.by,
+            terms,
+            (above, below),
+        )
+    }
+
+    // The places of the terms of a multiple, if they have places.
+    pub(crate) fn row(
+        &self,
+        alloc: Global,
+        divisor: u32,
+        by: &Monomial,
+        terms: &[(Term, Residue)],
+    ) -> Result<Option<Row>, NoMemory>
+        requires vector { IsVector O.order VARIABLES terms.now }
+        requires within { is_over_degree RUN_DEGREE (multiply_vector by.now terms.now) ≡ false }
+        ensures row { IfOk result (λ found. IfSome found (λ row. IsRow O.high row terms.now)) }
+        ensures divisor { IfOk result (λ found. IfSome found (λ row. row.divisor ≡ divisor)) }
+    {
+        let (above, below) = split_kinds::<O>(terms);
+        let Some(high) = self.high.placed(alloc, by, above)? else {
+            return Ok(None);
+        };
+        let Some(low) = self.low.placed(alloc, by, below)? else {
+            return Ok(None);
+        };
+        Ok(Some(Row {
+            divisor,
+            by: *by,
+            high,
+            low,
+        }))
+    }
+
+    // Which lead was taken off last: a number for each place in a dense sum, and 0 for no such lead.
+    pub(crate) fn lead(&self) -> usize {
+        self.lead
+    }
+
     // Adds `factor` times `by` times the terms.
     fn add(
         &mut self,
@@ -99,17 +159,40 @@ impl<O: TermOrder> Dividend<O> {
         requires within { is_over_degree RUN_DEGREE (multiply_vector by.now terms.now) ≡ false }
         ensures { OnOk result (self.new ≡ normal_form O.order (self.old ++ scale factor (multiply_vector by.now terms.now))) }
     {
+        let parts = split_kinds::<O>(terms);
+        self.add_parts((None, None), factor, by, terms, parts)
+    }
+
+    // Adds `factor` times `by` times the terms, which are these high terms and the low ones behind them. Their places may
+    // be known.
+    fn add_parts(
+        &mut self,
+        known: (Option<&Placed>, Option<&Placed>),
+        factor: Residue,
+        by: &Monomial,
+        terms: &[(Term, Residue)],
+        parts: (&[(Term, Residue)], &[(Term, Residue)]),
+    ) -> Result<(), NoMemory>
+        requires vector { IsVector O.order VARIABLES terms.now }
+        requires within { is_over_degree RUN_DEGREE (multiply_vector by.now terms.now) ≡ false }
+        requires whole { terms.now ≡ parts.0.now ++ parts.1.now }
+        requires high { AllKeys (λ t. O.high t.0 ≡ true) parts.0.now }
+        requires low { AllKeys (λ t. O.high t.0 ≡ false) parts.1.now }
+        requires high_places { IfSome known.0 (λ placed. ArePlaces placed.now (multiply_vector by.now parts.0.now)) }
+        requires low_places { IfSome known.1 (λ placed. ArePlaces placed.now (multiply_vector by.now parts.1.now)) }
+        ensures { OnOk result (self.new ≡ normal_form O.order (self.old ++ scale factor (multiply_vector by.now terms.now))) }
+    {
         if !self.is_dense {
             return self.buckets.add_terms(factor, by, terms);
         }
         let _degree = by.degree();
-        let (above, below) = split_kinds::<O>(terms);
-        if !self.high.add_multiple(factor, by, above)? {
+        let (above, below) = parts;
+        if !self.high.add_multiple(known.0, factor, by, above)? {
             pour(self.alloc, &mut self.high, &mut self.low, &mut self.buckets)?;
             self.is_dense = false;
             return self.buckets.add_terms(factor, by, terms);
         }
-        if !self.low.add_multiple(factor, by, below)? {
+        if !self.low.add_multiple(known.1, factor, by, below)? {
             pour(self.alloc, &mut self.high, &mut self.low, &mut self.buckets)?;
             self.is_dense = false;
             return self.buckets.add_terms(factor, by, below);
@@ -124,15 +207,23 @@ impl<O: TermOrder> Dividend<O> {
         ensures vector { IsBounded O.order self.old }
     {
         if let Some(item) = self.high.lead() {
-            self.high.skip();
+            let place = self.high.skip();
+            self.lead = number_of_lead(place, true);
             return Some(item);
         }
         if let Some(item) = self.low.lead() {
-            self.low.skip();
+            let place = self.low.skip();
+            self.lead = number_of_lead(place, false);
             return Some(item);
         }
+        self.lead = 0;
         self.buckets.take_lead()
     }
+}
+
+// The number of the lead at a place in the sum of high terms, or in that of low terms: never 0.
+fn number_of_lead(place: usize, is_high: bool) -> usize {
+    place.saturating_mul(2).saturating_add(1 + is_high as usize)
 }
 
 // The high terms, and the low terms behind them.

@@ -5,15 +5,15 @@ ghost use Rattle.fast_division.specs.Ranks.{IsOneKind};
 
 use crate::window::Window;
 use module_vec::Vector;
-use mono_order::{Monomial, Term, TermOrder, VARIABLES};
+use mono_order::{Monomial, TermOrder, VARIABLES};
 use std::alloc::Global;
 
-// The variables and the components of terms, as far as they reach.
+// The variables of all terms, and the components of the high terms or of the low ones, as far as they reach.
 #[derive(Clone, Copy)]
 pub(crate) struct Extent {
-    // The terms have none of the variables behind so many.
+    // The terms of both kinds have none of the variables behind so many.
     variables: u8,
-    // The lowest component and the highest one; where there is no term it is the other way round.
+    // The lowest component of one kind and the highest one; where there is no term it is the other way round.
     first: u8,
     last: u8,
 }
@@ -32,23 +32,32 @@ impl Extent {
         extent
     }
 
-    // With the high terms of a vector too, or with its low terms.
+    // With the terms of a vector too, and the components of its high terms, or of its low ones.
     fn widened<O: TermOrder>(self, vector: &Vector<O>, is_high: bool) -> Extent {
         let mut extent = self;
         for (term, _) in vector.terms() {
+            extent = extent.with_variables(&term.monomial);
             if O::is_high(term.component) == is_high {
-                extent = extent.with(term);
+                extent = extent.with_component(term.component);
             }
         }
         extent
     }
 
-    // With a term too.
-    fn with(self, term: &Term) -> Extent {
+    // With the variables of a monomial too.
+    fn with_variables(self, monomial: &Monomial) -> Extent {
         Extent {
-            variables: self.variables.max(last_variable(&term.monomial)),
-            first: self.first.min(term.component),
-            last: self.last.max(term.component),
+            variables: self.variables.max(last_variable(monomial)),
+            ..self
+        }
+    }
+
+    // With a component too.
+    fn with_component(self, component: u8) -> Extent {
+        Extent {
+            first: self.first.min(component),
+            last: self.last.max(component),
+            ..self
         }
     }
 

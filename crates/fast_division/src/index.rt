@@ -183,11 +183,11 @@ fn divides_by(entry: &Entry, mask: u16, degree: u16, lead: &Monomial, monomial: 
 fn support(monomial: &Monomial) -> u16
     ensures { result ≡ support_mask monomial.now }
 {
-    let _bounded = monomial.degree();
+    let exponents = monomial.exponents();
     let mut mask = 0;
-    let mut i = VARIABLES as u8;
+    let mut i = VARIABLES;
     while i > 0 {
-        mask = 2 * mask + monomial.exponent(i).min(1);
+        mask = 2 * mask + exponents[i - 1].min(1);
         i -= 1;
     }
     mask

@@ -50,6 +50,13 @@ impl Ranks {
         self.variables
     }
 
+    // The bound for the degrees that there are ranks of.
+    pub(crate) fn degrees(&self) -> usize
+        ensures { result ≡ self.now.1 }
+    {
+        self.rows.len()
+    }
+
     // Makes rows for all power products of at most this degree. The answer is false where they are too many.
     pub(crate) fn grow(&mut self, degree: u16) -> Result<bool, NoMemory>
         ensures variables { self.new.0 ≡ self.old.0 }

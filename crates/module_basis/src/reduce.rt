@@ -9,7 +9,7 @@ ghost use Rattle.module_basis.specs.GroebnerBasis.{IsReducedLowBasis, IsTailRedu
 ghost use Rattle.module_basis.specs.Reducing.{Descends, IsSortedLow, IsKept};
 
 use crate::basis::Basis;
-use fast_division::{Dividend, LeadIndex, remainder_by};
+use fast_division::{Dividend, LeadIndex, Multiples, remainder_by};
 use ibp_base::{List, NoMemory};
 use module_vec::{Vector, VectorFault};
 use mono_order::{Term, TermOrder};
@@ -149,7 +149,8 @@ fn low_remainder<O: TermOrder>(
     requires low { AllKeys (λ t. (O.high t.0 ≡ false) × (sum t.1 ≤ RUN_DEGREE)) v.now }
     ensures { IfOk result (λ r. DividesTo O.order RUN_DEGREE list.now v.now (Remainder r)) }
 {
-    match remainder_by(alloc, dividend, v, list, index) {
+    let mut multiples = Multiples::none(alloc);
+    match remainder_by(alloc, dividend, &mut multiples, v, list, index) {
         Ok(rest) => Ok(rest),
         Err(VectorFault::DegreeOver) => unreachable!(),
         Err(VectorFault::NoMemory) => Err(NoMemory),

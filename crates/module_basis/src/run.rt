@@ -1,6 +1,7 @@
 ghost use Rattle.std.specs.Prelude.{◌≡◌, ◌≢◌, ◌+◌, ◌-◌, ◌^◌, ◌<◌, ◌↔◌, ◌⊎◌, true, false, length, map, get_or, [], ◌∷◌, Some, None, IsNone, IfSome, IfOk, OnOk};
 ghost use Rattle.std.specs.List.{All};
 ghost use Rattle.mono_order.specs.declared.limits.TheConstants.{VARIABLES, RUN_DEGREE};
+ghost use Rattle.fast_division.specs.Kept.{AreRowsOf};
 ghost use Rattle.module_vec.specs.ModuleVector.{IsMonic, IsMonicVector, IsVector, IsMember, lead};
 ghost use Rattle.module_vec.specs.Division.{DividesTo, Remainder, OverDegree, monic_of, s_vector as s_vector_of};
 ghost use Rattle.module_basis.specs.GroebnerBasis.{IsGroebnerBasis};
@@ -9,7 +10,7 @@ ghost use Rattle.module_basis.specs.PlainRun.{IsProper, IsSoundState, RunsTo, Do
 use crate::basis::Basis;
 use crate::fault::BasisFault;
 use crate::pairs::{formed_pairs, next_undropped, push_all};
-use fast_division::{Dividend, LeadIndex, remainder_by};
+use fast_division::{Dividend, LeadIndex, Multiples, remainder_by};
 use ibp_base::NoMemory;
 use module_division::s_vector;
 use module_vec::{Vector, VectorFault};
@@ -46,13 +47,15 @@ pub fn plain_run<O: TermOrder>(
     Ok(run.finished())
 }
 
-// The elements of a run with the index of their leads, the pairs that are left, and how many pairs were taken.
+// The elements of a run with the index of their leads and what divisions by them keep, the pairs that are left, and how
+// many pairs were taken.
 #[derive(Drop)]
 struct Run<O: TermOrder> {
     elements: Vec<Vector<O>>,
     index: LeadIndex<O>,
     // It lends its memory to each division.
     dividend: Dividend<O>,
+    multiples: Multiples<O>,
     pairs: PairQueue<O>,
     taken: u64,
 }
@@ -61,13 +64,14 @@ impl<O: TermOrder> Model for Run<O> {
     ghost use Rattle.std.specs.Prelude.{◌≡◌, map};
     ghost use Rattle.mono_order.specs.declared.limits.TheConstants.{VARIABLES};
     ghost use Rattle.module_vec.specs.ModuleVector.{lead};
+    ghost use Rattle.fast_division.specs.Kept.{AreRowsOf};
     ghost use Rattle.module_basis.specs.PlainRun.{RunState, run_state, IsSoundState};
 
     ghost Value = { RunState };
 
     ghost view = { λ r. run_state r.pairs.by r.elements.items r.pairs.pairs r.taken };
 
-    ghost invariant = { λ r. IsSoundState O.order VARIABLES (run_state r.pairs.by r.elements.items r.pairs.pairs r.taken) × (r.index ≡ map lead r.elements.items) };
+    ghost invariant = { λ r. IsSoundState O.order VARIABLES (run_state r.pairs.by r.elements.items r.pairs.pairs r.taken) × (r.index ≡ map lead r.elements.items) × AreRowsOf O.high r.elements.items r.multiples };
 }
 
 impl<O: TermOrder> Run<O> {
@@ -94,6 +98,7 @@ impl<O: TermOrder> Run<O> {
             elements: Vec::new(alloc),
             index: LeadIndex::empty(alloc),
             dividend,
+            multiples: Multiples::none(alloc),
             pairs: PairQueue::empty(alloc, by),
             taken: 0,
         }
@@ -111,6 +116,7 @@ impl<O: TermOrder> Run<O> {
             mut elements,
             mut index,
             dividend,
+            multiples,
             mut pairs,
             taken,
         } = self;
@@ -123,6 +129,7 @@ impl<O: TermOrder> Run<O> {
             elements,
             index,
             dividend,
+            multiples,
             pairs,
             taken,
         })
@@ -155,14 +162,23 @@ impl<O: TermOrder> Run<O> {
             elements,
             index,
             mut dividend,
+            mut multiples,
             pairs,
             taken,
         } = self;
-        let rest = remainder_of_pair(alloc, &mut dividend, &elements, &index, pair)?;
+        let rest = remainder_of_pair(
+            alloc,
+            &mut dividend,
+            &mut multiples,
+            &elements,
+            &index,
+            pair,
+        )?;
         let run = Run {
             elements,
             index,
             dividend,
+            multiples,
             pairs,
             taken: taken + 1,
         };
@@ -189,6 +205,7 @@ impl<O: TermOrder> Run<O> {
             elements,
             index: _,
             dividend: _,
+            multiples: _,
             pairs: _,
             taken,
         } = self;
@@ -212,12 +229,14 @@ fn made_monic<O: TermOrder>(alloc: Global, v: &Vector<O>) -> Result<Vector<O>, N
 fn remainder_of_pair<O: TermOrder>(
     alloc: Global,
     dividend: &mut Dividend<O>,
+    multiples: &mut Multiples<O>,
     elements: &[Vector<O>],
     index: &LeadIndex<O>,
     pair: &Pair,
 ) -> Result<Vector<O>, VectorFault>
     requires monic { All (IsMonicVector O.order VARIABLES) elements.now }
     requires index { index.now ≡ map lead elements.now }
+    requires multiples { AreRowsOf O.high elements.now multiples.old }
     requires proper { IsProper elements.now pair.now }
     ensures within { let g = get_or elements.now (pair.now.first - 1) [] in
         let h = get_or elements.now (pair.now.second - 1) [] in
@@ -228,9 +247,10 @@ fn remainder_of_pair<O: TermOrder>(
     ensures over { let g = get_or elements.now (pair.now.first - 1) [] in
         let h = get_or elements.now (pair.now.second - 1) [] in
         result ≡ Err VectorFault.DegreeOver → (is_pair_over RUN_DEGREE g h pair.now.lcm ≡ true) ⊎ ((is_pair_over RUN_DEGREE g h pair.now.lcm ≡ false) × DividesTo O.order RUN_DEGREE elements.now (s_vector_of O.order g h) OverDegree) }
+    ensures multiples { AreRowsOf O.high elements.now multiples.new }
 {
     let first = &elements[pair.first as usize - 1];
     let second = &elements[pair.second as usize - 1];
     let difference = s_vector(alloc, first, second)?;
-    remainder_by(alloc, dividend, &difference, elements, index)
+    remainder_by(alloc, dividend, multiples, &difference, elements, index)
 }

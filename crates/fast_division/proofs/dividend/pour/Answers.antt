@@ -1,8 +1,7 @@
-use Rattle.std.proofs.Common.{◌≡◌, ◌++◌, [], sym, subst, ◌∙◌, ap, rules}
+use Rattle.std.proofs.Common.{◌≡◌, ◌++◌, sym, subst, ◌∙◌, rules}
 use Rattle.std.proofs.lemmas.Result.{on_ok_weaker}
-use Rattle.module_vec.specs.ModuleVector.{ModuleVector}
 use Rattle.fast_division.specs.PartialSums.{IsBounded}
-use Rattle.fast_division.proofs.Totals.{one_within, added_to_zero}
+use Rattle.fast_division.proofs.Totals.{one_within}
 use Rattle.fast_division.proofs.Dividends.{one_added}
 use Rattle.fast_division.proofs.dividend.pour.Goals as goal
 

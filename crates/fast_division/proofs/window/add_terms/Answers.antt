@@ -1,4 +1,4 @@
-use Rattle.std.proofs.Common.{◌<◌, ◌+◌, ◌%◌, length, get_or, sym, refl, ap, subst, ◌∙◌, arith}
+use Rattle.std.proofs.Common.{◌<◌, ◌+◌, ◌*◌, ◌%◌, length, get_or, sym, refl, ap, subst, ◌∙◌, arith}
 use Rattle.std.proofs.Math.ListN.{length-set}
 use Rattle.fast_division.specs.Windows.{vector_of, IsWindow, IsReached}
 use Rattle.fast_division.proofs.Merges.{product_bounded}
@@ -37,15 +37,16 @@ loop-term-preserved g c =
     let reached = multiple_has (IsReached places.ranks.0 places.first places.count places.ranks.1 (length c.args.cells.now.values.items)) c.args.by.now c.args.terms.now c.loop-term.term-index item key
     c.loop-term-test.true c.loop-term-item.is c.times-key.ensures c.requires.reached in
     let within : c.place.result < length before.values.items = omega (arith, reached.within, c.place.ensures, c.loop-term.invariant.long) in
-    let value = (get_or before.values.items c.place.result 0 + c.mul.result) % 2147483647 in
+    let product = c.args.factor * item.1 in
+    let value = (get_or before.values.items c.place.result 0 + product) % 2147483647 in
     record {
       window = subst (λ n. IsWindow g.O.TermOrder.high places.ranks.0 places.first places.count n after.terms.items after.values.items) (sym c.add.ensures.top)
-          (IsWindow-added laws places.ranks.0 places.first places.count before.top before.terms.items before.values.items c.loop-term.invariant.window key c.place.result c.mul.result value
+          (IsWindow-added laws places.ranks.0 places.first places.count before.top before.terms.items before.values.items c.loop-term.invariant.window key c.place.result product value
           after.terms.items after.values.items reached.has c.place.ensures within refl c.add.ensures.terms c.add.ensures.values);
       long = ap length c.add.ensures.values ∙ length-set before.values.items c.place.result value ∙ c.loop-term.invariant.long;
       sum = multiple_added (vector_of c.args.cells.now.terms.items c.args.cells.now.values.items) (vector_of before.terms.items before.values.items) (vector_of after.terms.items after.values.items)
-          c.args.factor c.mul.result c.args.by.now c.args.terms.now c.loop-term.term-index item key c.loop-term-test.true c.loop-term-item.is c.times-key.ensures c.mul.ensures
-          (weights_added laws places.ranks.0 places.first places.count before.top before.terms.items before.values.items c.loop-term.invariant.window key c.place.result c.mul.result value
+          c.args.factor product c.args.by.now c.args.terms.now c.loop-term.term-index item key c.loop-term-test.true c.loop-term-item.is c.times-key.ensures refl
+          (weights_added laws places.ranks.0 places.first places.count before.top before.terms.items before.values.items c.loop-term.invariant.window key c.place.result product value
           after.terms.items after.values.items reached.has c.place.ensures within refl c.add.ensures.terms c.add.ensures.values)
           c.loop-term.invariant.sum;
     }

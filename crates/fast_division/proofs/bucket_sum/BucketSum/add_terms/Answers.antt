@@ -1,4 +1,4 @@
-use Rattle.std.proofs.Common.{◌++◌, ◌∙◌}
+use Rattle.std.proofs.Common.{◌∙◌}
 use Rattle.ibp_algebra.specs.FormalSum.{scale}
 use Rattle.module_vec.specs.ModuleVector.{multiply_vector}
 use Rattle.fast_division.specs.PartialSums.{total}

@@ -1,4 +1,4 @@
-use Rattle.std.proofs.Common.{◌≡◌, ◌≢◌, [], ◌++◌, subst, rules}
+use Rattle.std.proofs.Common.{◌≢◌, [], ◌++◌, subst, rules}
 use Rattle.fast_division.specs.PartialSums.{IsBounded}
 use Rattle.fast_division.proofs.Dividends.{IsSplit-bounded}
 use Rattle.fast_division.proofs.dividend.Dividend.take_lead.Goals as goal

@@ -10,6 +10,4 @@ returns c =
     let key : Term = (c.key.inside.component, c.key.inside.monomial) in
     let fits : key.0 < 256 = omega arith in
     let degree : sum key.1 ≤ RUN_DEGREE = subst (λ (t : Term). sum t.1 ≤ RUN_DEGREE) (sym c.key.view_is) c.requires in
-    let n = c.variables.ensures in
-    HasPlace-tested c.variables.result places.ranks.0 places.first places.count key c.args.key.now c.partial_sums-sums.result n.some n.few fits c.partial_sums-sums.ensures.kept degree
-    c.partial_sums-sums.ensures.value n.variables c.key.view_is
+    HasPlace-tested places.ranks.0 places.first places.count c.is_of_first.result key c.args.key.now fits c.is_of_first.ensures.kept degree c.key.view_is c.is_of_first.ensures.tested

@@ -3,7 +3,9 @@ use Rattle.std.proofs.lemmas.List.{map-append, length-map}
 use Rattle.mono_order.specs.declared.limits.TheConstants.{VARIABLES}
 use Rattle.pair_queue.specs.declared.queue.Pair.{Pair}
 use Rattle.pair_queue.specs.Pairs.{compare_pairs, insert_pairs}
-use Rattle.module_vec.specs.ModuleVector.{lead, IsMonicVector}
+use Rattle.module_vec.specs.ModuleVector.{ModuleVector, lead, IsMonicVector}
+use Rattle.fast_division.specs.Kept.{AreRowsOf}
+use Rattle.fast_division.proofs.KeptPlaces.{AreRowsOf-longer}
 use Rattle.module_basis.specs.PlainRun.{RunState, run_state, AreNewPairs, pairs_with, IsSoundState}
 use Rattle.module_basis.proofs.Forming.{AreNewPairs-formed, IsSoundState-added}
 use Rattle.module_basis.proofs.run.Run.added.Goals as goal
@@ -41,7 +43,10 @@ invariant_of-result g c =
     let leads : c.add.new.self ≡ map lead c.self.inside.elements.items ++ lead c.args.element ∷ [] =
     c.in_ok-add.ensures.added ∙ (λ i. c.self.invariant.1 i ++ c.lead_term-lead.ensures.lead i ∷ [])
     in
-    (state, leads ∙ sym (ap (map lead) items ∙ map-append lead c.self.inside.elements.items (c.args.element ∷ [])))
+    let multiples = subst (λ (l : List ModuleVector). AreRowsOf g.O.TermOrder.high l c.self.inside.multiples) (sym items)
+    (AreRowsOf-longer g.O.TermOrder.high c.self.inside.elements.items (c.args.element ∷ []) c.self.inside.multiples c.self.invariant.2)
+    in
+    (state, leads ∙ sym (ap (map lead) items ∙ map-append lead c.self.inside.elements.items (c.args.element ∷ [])), multiples)
 
 pub add-requires : goal.add-requires
 add-requires g c = omega (arith, c.requires.few, ap (λ (s : RunState). length s.elements) c.self.view_is, ap length c.self.invariant.1, length-map c.self.inside.elements.items lead)

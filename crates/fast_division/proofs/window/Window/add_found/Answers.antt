@@ -6,7 +6,7 @@ use Rattle.fast_division.specs.Ranks.{below, HasPlace}
 use Rattle.fast_division.specs.Windows.{vector_of}
 use Rattle.fast_division.proofs.Totals.{subtracted, on_err_from}
 use Rattle.fast_division.proofs.Windows.{IsWindow-widened, vector_of-widened, IsReached-all}
-use Rattle.fast_division.proofs.window.Window.add_multiple.Goals as goal
+use Rattle.fast_division.proofs.window.Window.add_found.Goals as goal
 
 pub invariant_of-self-in_err-widen : goal.invariant_of-self-in_err-widen
 invariant_of-self-in_err-widen g c =
