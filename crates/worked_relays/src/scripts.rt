@@ -180,6 +180,25 @@ pub fn is_work_of_the_quad(rt: &impl Abort, piece: &SectorResult) -> bool {
     }
 }
 
+// Whether the result has these seeds with one power, and the candidates at these places as a basis.
+fn is_made_at(rt: &impl Abort, piece: &SectorResult, powers: &[i16], basis: &[u32]) -> bool {
+    piece.seeds().len() == powers.len()
+        && piece.seeds().iter().zip(powers).all(|(seed, power)| {
+            *seed == Integral::new(&[*power]).expect(rt, "powers in range")
+        })
+        && piece.basis() == basis
+}
+
+#[test]
+fn the_quad_has_two_seeds_and_two_candidates_in_its_basis(rt: HostRuntime) {
+    let alloc = rt.alloc();
+    let plan = plan_of(alloc, QUAD).expect(&rt, "memory");
+    let mut relay = opened(&rt, alloc, &plan);
+    let piece = next_result(&rt, alloc, &plan, &mut relay, 1, 1);
+    assert!(rt; is_work_of_the_quad(&rt, &piece));
+    assert!(rt; is_made_at(&rt, &piece, &[1, 2], &[0, 1]));
+}
+
 // The result for other targets of the same sector.
 fn stranger_of(rt: &impl Abort, alloc: Global) -> SectorResult {
     let file = QUAD.replace(alloc, "[[2]]", "[[2], [3]]");

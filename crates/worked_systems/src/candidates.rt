@@ -8,8 +8,8 @@ ghost use Rattle.family.specs.Shapes.{IsField, ArePowers};
 use family::{Family, StrippedField};
 use family_file::{Need, read_family};
 use ibp_field::Residue;
-use ibp_relation::candidate;
-use sector_lattice::Integral;
+use ibp_relation::{Template, candidate};
+use sector_lattice::{Integral, Sector};
 use sector_module::sector_basis;
 use sparse_rows::Row;
 use std::alloc::Global;
@@ -49,28 +49,60 @@ fn candidates_of(
     Ok(rows)
 }
 
-// The identities of the basis of the sector of the probe's seed, at this seed.
-fn candidates_at_the_probe(alloc: Global, family: &Family) -> Result<Vec<Row>, Fail> {
+// The same, each by the template of its field.
+fn rows_of_templates(
+    alloc: Global,
+    family: &Family,
+    sector: Sector,
+    fields: &[StrippedField],
+    seed: &Integral,
+) -> Result<Vec<Row>, Fail>
+    requires shape { All (λ field. IsField family.now.n RUN_DEGREE field.c field.b) fields.now }
+    requires powers { ArePowers family.now.n seed.now }
+{
+    let mut rows = Vec::new(alloc);
+    for field in fields {
+        let template = Template::of(alloc, family, sector, field)?;
+        rows.push(template.candidate(alloc, family, seed)?)?;
+    }
+    Ok(rows)
+}
+
+// The identities of the basis of the sector of the probe's seed, at this seed: those of the fields, and those of their
+// templates.
+fn candidates_at_the_probe(alloc: Global, family: &Family) -> Result<(Vec<Row>, Vec<Row>), Fail> {
     let probe = family.probe.as_ref().ok_or("no probe")?;
     let sector = probe.seed.sector();
     if u32::from(sector.0) >= 1 << family.n {
         return Err("no sector")?;
     }
     let basis = sector_basis(alloc, family, sector)?;
-    candidates_of(alloc, family, basis.fields(), &probe.seed)
+    Ok((
+        candidates_of(alloc, family, basis.fields(), &probe.seed)?,
+        rows_of_templates(alloc, family, sector, basis.fields(), &probe.seed)?,
+    ))
+}
+
+// Whether the rows have these coefficients at two integrals, and no other terms.
+fn have_coefficients(rows: &[Row], integrals: &[Integral; 2], coefficients: &[[i64; 2]]) -> bool {
+    rows.len() == coefficients.len()
+        && rows.iter().zip(coefficients).all(|(row, [first, second])| {
+            row.terms().len() == 2
+                && row.coefficient(&integrals[0]) == Residue::from_i64(*first)
+                && row.coefficient(&integrals[1]) == Residue::from_i64(*second)
+        })
 }
 
 #[test]
 fn the_candidates_of_a_bubble_at_a_seed(rt: HostRuntime) -> Result<(), Fail> {
     let bubble = bubble_with_a_seed(&rt, rt.alloc());
-    let rows = candidates_at_the_probe(rt.alloc(), &bubble)?;
-    let dotted = Integral::new(&[1, 2]).expect(&rt, "powers in range");
-    let plain = Integral::new(&[1, 1]).expect(&rt, "powers in range");
-    assert_eq!(rt; rows.len(), 2);
-    for (row, [first, second]) in rows.iter().zip([[1, 14], [2147483645, 2147483619]]) {
-        assert_eq!(rt; row.terms().len(), 2);
-        assert!(rt; row.coefficient(&dotted) == Residue::from_i64(first));
-        assert!(rt; row.coefficient(&plain) == Residue::from_i64(second));
-    }
+    let (rows, of_templates) = candidates_at_the_probe(rt.alloc(), &bubble)?;
+    let integrals = [[1, 2], [1, 1]].map(|powers| Integral::new(&powers).expect(
+        &rt,
+        "powers in range",
+    ));
+    let coefficients = [[1, 14], [2147483645, 2147483619]];
+    assert!(rt; have_coefficients(&rows, &integrals, &coefficients));
+    assert!(rt; have_coefficients(&of_templates, &integrals, &coefficients));
     Ok(())
 }
