@@ -1,9 +1,9 @@
 // The fast division beside the plain one, over the S-vectors of two families.
-ghost use Rattle.std.specs.Prelude.{◌≢◌, ◌<◌, ◌^◌, length, [], IfOk};
+ghost use Rattle.std.specs.Prelude.{◌≡◌, ◌≢◌, ◌<◌, ◌^◌, length, map, [], IfOk};
 ghost use Rattle.std.specs.List.{All};
-ghost use Rattle.module_vec.specs.ModuleVector.{IsMonic};
+ghost use Rattle.module_vec.specs.ModuleVector.{IsMonic, lead};
 
-use fast_division::{index_leads, normal_form_fast};
+use fast_division::{Dividend, LeadIndex, Multiples, index_leads, normal_form_fast, remainder_by};
 use ibp_field::Residue;
 use module_basis::{Basis, plain_run};
 use module_division::{normal_form, s_vector};
@@ -68,7 +68,27 @@ fn run_of(
     Ok(basis)
 }
 
-// Whether the S-vectors of the last vector of the list with its vectors have one remainder by both divisions.
+// Whether a vector has this remainder three times over, where the divisions share what they keep.
+fn is_found_again(
+    alloc: Global,
+    v: &Vector<ZeroDominates>,
+    list: &[Vector<ZeroDominates>],
+    index: &LeadIndex<ZeroDominates>,
+    wanted: &Vector<ZeroDominates>,
+) -> Result<bool, Fail>
+    requires monic { All IsMonic list.now }
+    requires index { index.now ≡ map lead list.now }
+{
+    let mut rest = Dividend::over(alloc, list)?;
+    let mut multiples = Multiples::none(alloc);
+    let first = remainder_by(alloc, &mut rest, &mut multiples, v, list, index)?;
+    let second = remainder_by(alloc, &mut rest, &mut multiples, v, list, index)?;
+    let third = remainder_by(alloc, &mut rest, &mut multiples, v, list, index)?;
+    let wanted = wanted.terms();
+    Ok(first.terms() == wanted && second.terms() == wanted && third.terms() == wanted)
+}
+
+// Whether the S-vectors of the last vector of the list with its vectors have one remainder by all divisions.
 fn has_one_remainder(alloc: Global, list: &[Vector<ZeroDominates>]) -> Result<bool, Fail>
     requires few { length list.now < 2 ^ 32 }
     requires monic { All IsMonic list.now }
@@ -83,7 +103,8 @@ fn has_one_remainder(alloc: Global, list: &[Vector<ZeroDominates>]) -> Result<bo
             let difference = s_vector(alloc, other, last)?;
             let slow = normal_form(alloc, &difference, list)?;
             let fast = normal_form_fast(alloc, &difference, list, &index)?;
-            if slow.terms() != fast.terms() {
+            let is_one = slow.terms() == fast.terms();
+            if !is_one || !is_found_again(alloc, &difference, list, &index, &slow)? {
                 return Ok(false);
             }
         }
