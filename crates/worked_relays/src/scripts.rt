@@ -199,11 +199,20 @@ fn the_quad_has_two_seeds_and_two_candidates_in_its_basis(rt: HostRuntime) {
     assert!(rt; is_made_at(&rt, &piece, &[1, 2], &[0, 1]));
 }
 
+// The file of the quad with one more target.
+const QUAD_OF_TWO_TARGETS: &str = r#"version = 1
+name = "quad"
+loops = 1
+legs = 0
+variables = 1
+dimension = 12
+baikov = "z1^2 + 1"
+targets = [[2], [3]]
+"#;
+
 // The result for other targets of the same sector.
 fn stranger_of(rt: &impl Abort, alloc: Global) -> SectorResult {
-    let file = QUAD.replace(alloc, "[[2]]", "[[2], [3]]");
-    let file = file.ok().expect(rt, "memory");
-    let plan = plan_of(alloc, &file).expect(rt, "memory");
+    let plan = plan_of(alloc, QUAD_OF_TWO_TARGETS).expect(rt, "memory");
     let mut relay = opened(rt, alloc, &plan);
     next_result(rt, alloc, &plan, &mut relay, 1, 1)
 }
