@@ -39,6 +39,16 @@ fn handed_back(
     }
 }
 
+// The worker finishes a sector that it holds.
+fn finish_held(
+    rt: &impl Abort,
+    relay: &mut RelayState<SectorResult>,
+    worker: u32,
+    piece: SectorResult,
+) {
+    assert!(rt; relay.finish(worker, piece).is_ok());
+}
+
 // Takes a sector and gives it back, and another worker must wait between.
 fn give_back(
     rt: &impl Abort,
@@ -100,7 +110,7 @@ fn finish_next(
     number: u16,
 ) {
     let piece = next_result(rt, alloc, plan, relay, worker, number);
-    assert!(rt; relay.finish(worker, piece).is_ok());
+    finish_held(rt, relay, worker, piece);
 }
 
 // The second worker takes sector 3. The first one cannot finish it, and there is no tail to post.
@@ -116,7 +126,7 @@ fn finish_the_first(
     );
     let first = handed_back(rt, relay, 1, first);
     assert!(rt; relay.post(2, &first, 0, 1) == Err(PostFault::NotTail { tails: 0 }));
-    assert!(rt; relay.finish(2, first).is_ok());
+    finish_held(rt, relay, 2, first);
 }
 
 // Two workers hold the sectors 2 and 1 at once.
@@ -129,8 +139,8 @@ fn finish_two_at_once(
     let second = next_result(rt, alloc, plan, relay, 1, 2);
     let third = next_result(rt, alloc, plan, relay, 2, 1);
     assert!(rt; must_wait(relay, 3));
-    assert!(rt; relay.finish(1, second).is_ok());
-    assert!(rt; relay.finish(2, third).is_ok());
+    finish_held(rt, relay, 1, second);
+    finish_held(rt, relay, 2, third);
 }
 
 fn is_at_its_end(relay: &mut RelayState<SectorResult>) -> bool {
@@ -252,7 +262,7 @@ fn finish_after_a_stranger(
     let piece = next_result(rt, alloc, plan, relay, 2, 1);
     let stranger = relay.finish(2, stranger_of(rt, alloc));
     assert!(rt; matches!(stranger, Err(FinishFault::Stranger(_))));
-    assert!(rt; relay.finish(2, piece).is_ok());
+    finish_held(rt, relay, 2, piece);
 }
 
 #[test]
